@@ -1,0 +1,8 @@
+use mathlib.Core.Path.{_∙_}
+use borrow.Author.Needs.{needs}
+use Rattle.packed.proofs.Bytes.{header-is, value-4, value-4-2}
+use Rattle.packed.proofs.fields.take_header.Needs as need
+
+pub returns : need.returns
+returns c =
+    header-is (c .args .bytes .now) _ _ (search needs) (c .from-le-bytes-size .ensures ∙ value-4 (c .args .bytes .now) (search needs)) (c .from-le-bytes-kind .ensures ∙ value-4-2 (c .args .bytes .now) (search needs))

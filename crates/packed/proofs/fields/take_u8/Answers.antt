@@ -1,0 +1,6 @@
+use borrow.Author.Needs.{needs}
+use Rattle.packed.proofs.Bytes.{number-rest, value-1}
+use Rattle.packed.proofs.fields.take_u8.Needs as need
+
+pub returns : need.returns
+returns c = number-rest 1 (c .args .bytes .now) _ (search needs) (value-1 (c .args .bytes .now) (search needs))

@@ -1,0 +1,7 @@
+pub mod Codec
+pub mod Faults
+pub mod Records
+pub mod Layout
+pub mod Views
+pub mod Exact
+pub mod Sample

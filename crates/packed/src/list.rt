@@ -1,0 +1,1 @@
+// A packed list, read where it lies.
