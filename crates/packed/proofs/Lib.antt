@@ -8,3 +8,5 @@ mod Bytes
 mod Imports
 mod RowsRead
 mod Offsets
+mod Reading
+mod Opening

@@ -19,7 +19,7 @@ use Rattle.packed.specs.declared.faults.RecordFault.the-variants.{EndsInside, 
 use Rattle.packed.specs.declared.faults.FaultAt.{FaultAt}
 use Rattle.packed.specs.Codec.{when, text, number}
 use Rattle.packed.specs.Records.{Kinds, header, readRecord, orRefuse}
-use Rattle.packed.specs.Layout.{Entry, rows}
+use Rattle.packed.specs.Layout.{Entry, entry, rows}
 use Rattle.packed.specs.Views.{placed, readAt}
 use Rattle.packed.proofs.Codecs.{when-some, bind-some, some-inj}
 use Rattle.packed.proofs.Framing.{passed, ok-inj}
@@ -74,3 +74,74 @@ next-fits s offset r h e =
     let t = record-taken rows (drop offset s) r (sym (e ∙ ap (readRecord rows) (take-rest s offset))) in
     let w : r .1 ≤ length (drop offset s) = t .follows .within in
     omega (arith, length-drop offset s)
+
+ok-err : {A B : Type 0} (x : A) (y : B) → _≡_ {A = Result A B} (Ok x) (Err y) → ⊥
+ok-err x y e = let z : _≡_ {A = ℕ} 0 1 = cc in omega arith
+
+some-none : (p : Entry × ℕ) → _≡_ {A = Result (Option (Entry × ℕ)) FaultAt} (Ok (Some p)) (Ok None) → ⊥
+some-none p e = let z : _≡_ {A = ℕ} 0 1 = cc in omega arith
+
+cases-le : (m n : ℕ) → (m ≤ n) ⊎ (n < m)
+cases-le m n = ⊎-elim (λ (h : n < m). inr h) (λ (h : m ≤ n). inl h) (cases-lt n m)
+
+-- what is read at an offset, by the record there
+past : (s : List ℕ) (offset : ℕ) → length s ≤ offset → readAt s offset ≡ Ok None
+past s offset h = cond-true (leb (length s) offset) (Ok None) (placed offset (readRecord rows (drop offset s))) (le-leb (length s) offset h)
+
+within : (s : List ℕ) (offset : ℕ) → offset < length s → readAt s offset ≡ placed offset (readRecord rows (drop offset s))
+within s offset h = cond-false (leb (length s) offset) (Ok None) (placed offset (readRecord rows (drop offset s))) (lt-leb (length s) offset h)
+
+-- a record that is read at an offset
+pub record Here (s : List ℕ) (offset : ℕ) (e : Entry) (next : ℕ) : Type 0 where
+  pub inside : offset < length s
+  pub value : ℕ × Row
+  pub size : ℕ
+  pub is : readRecord rows (drop offset s) ≡ Ok (value, size, drop next s)
+  pub entry-is : entry offset value ≡ e
+  pub next-is : offset + size ≡ next
+  pub some : 6 ≤ size
+
+here-by : (s : List ℕ) (offset : ℕ) (e : Entry) (next : ℕ) → offset < length s → (r : Result ((ℕ × Row) × ℕ × List ℕ) RecordFault) → readRecord rows (drop offset s) ≡ r → placed offset r ≡ Ok (Some (e, next)) → Here s offset e next
+here-by s offset e next h (Err fault) q p = absurd (ok-err (Some (e, next)) (record { fault = fault; offset = offset }) (sym p))
+here-by s offset e next h (Ok r) q p =
+    let t = record-taken rows (drop offset s) r q in
+    let same : (entry offset (r .0), offset + r .1) ≡ (e, next) = cc in
+    let then : offset + r .1 ≡ next = ap (λ (x : Entry × ℕ). x .1) same in
+    let rest : r .2 ≡ drop next s = t .follows .rest-is ∙ drop-drop (r .1) offset s ∙ ap (λ (n : ℕ). drop n s) then in
+    record { inside = h; value = r .0; size = r .1; is = q ∙ ap (λ (x : List ℕ). Ok (r .0, r .1, x)) rest; entry-is = ap (λ (x : Entry × ℕ). x .0) same; next-is = then; some = t .some }
+
+pub here : (s : List ℕ) (offset : ℕ) (e : Entry) (next : ℕ) → Ok (Some (e, next)) ≡ readAt s offset → Here s offset e next
+here s offset e next p =
+    ⊎-elim (λ (h : length s ≤ offset). absurd (some-none (e, next) (p ∙ past s offset h)))
+    (λ (h : offset < length s). here-by s offset e next h (readRecord rows (drop offset s)) refl (sym (p ∙ within s offset h)))
+    (cases-le (length s) offset)
+
+-- a record that is refused at an offset
+pub record Fault (s : List ℕ) (offset : ℕ) (a : FaultAt) : Type 0 where
+  pub inside : offset < length s
+  pub is : readRecord rows (drop offset s) ≡ Err (a .fault)
+  pub at-is : record { fault = a .fault; offset = offset } ≡ a
+
+fault-by : (s : List ℕ) (offset : ℕ) (a : FaultAt) → offset < length s → (r : Result ((ℕ × Row) × ℕ × List ℕ) RecordFault) → readRecord rows (drop offset s) ≡ r → placed offset r ≡ Err a → Fault s offset a
+fault-by s offset a h (Ok r) q p = absurd (ok-err (Some (entry offset (r .0), offset + r .1)) a p)
+fault-by s offset a h (Err fault) q p =
+    let same : record { fault = fault; offset = offset } ≡ a = cc in
+    let f : fault ≡ a .fault = ap (λ (x : FaultAt). x .fault) same in
+    record { inside = h; is = q ∙ ap Err f; at-is = ap (λ (x : RecordFault). record { fault = x; offset = offset }) (sym f) ∙ same }
+
+pub fault : (s : List ℕ) (offset : ℕ) (a : FaultAt) → Err a ≡ readAt s offset → Fault s offset a
+fault s offset a p =
+    ⊎-elim (λ (h : length s ≤ offset). absurd (ok-err None a (sym (p ∙ past s offset h))))
+    (λ (h : offset < length s). fault-by s offset a h (readRecord rows (drop offset s)) refl (sym (p ∙ within s offset h)))
+    (cases-le (length s) offset)
+
+end-by : (s : List ℕ) (offset : ℕ) (r : Result ((ℕ × Row) × ℕ × List ℕ) RecordFault) → placed offset r ≡ Ok None → length s ≤ offset
+end-by s offset (Ok r) p = absurd (some-none (entry offset (r .0), offset + r .1) p)
+end-by s offset (Err fault) p = absurd (ok-err None (record { fault = fault; offset = offset }) (sym p))
+
+-- nothing is read at the end of the bytes alone
+pub at-end : (s : List ℕ) (offset : ℕ) → Ok None ≡ readAt s offset → length s ≤ offset
+at-end s offset p =
+    ⊎-elim (λ (h : length s ≤ offset). h)
+    (λ (h : offset < length s). end-by s offset (readRecord rows (drop offset s)) (sym (p ∙ within s offset h)))
+    (cases-le (length s) offset)

@@ -7,7 +7,7 @@ use native.Mathlib.Omega.{arith}
 use lib.ListN.{length}
 use Rattle.std.specs.declared.option.Option.{Option}
 use Rattle.std.specs.declared.option.Option.the-variants.{Some, None}
-use Rattle.std.specs.Options.{isSome}
+use Rattle.std.specs.Options.{isSome, mapped}
 use Rattle.std.proofs.shelf.Tests.{false≢true}
 use Rattle.rows.specs.declared.ImportRecord.{ImportRecord}
 use Rattle.rows.specs.Rows.{Row, isNormalSort}
@@ -128,3 +128,19 @@ none-by (Some (h, u)) e = none-at u h (count .read u) e
 
 pub row-none : (s : List ℕ) → None ≡ outline s → None ≡ readWhole row s
 row-none s e = none-by (head .read s) e
+
+-- what a glance shows of a payload that is read
+
+when-is : (b : Bool) (p q : ℕ × Row) → when b p ≡ Some q → p ≡ q
+when-is true p q e = some-inj e
+when-is false p q e = never _ e
+
+module _ (t : List ℕ) (value : ℕ × Row) (q : readWhole row t ≡ Some value) where
+  shown-by : (v : RowView) (o : Option (List ImportRecord × List ℕ)) → afterRecords (outlined v .0) o ≡ Some value → rowOf (outlined v .0) (listed o) ≡ value
+  shown-by v None e = never _ e
+  shown-by v (Some (es, [])) e = when-is (allowed (rowOf (outlined v .0) es .1)) (rowOf (outlined v .0) es) value (sym (records-judged (outlined v .0) (es, [])) ∙ e)
+  shown-by v (Some (es, b ∷ bs)) e = never _ (sym (records-judged (outlined v .0) (es, b ∷ bs)) ∙ e)
+
+  pub row-shown : (r : Option RowView) → mapped outlined r ≡ outline t → mapped shown r ≡ Some value
+  row-shown None e = never _ (row-none t e ∙ q)
+  row-shown (Some v) e = ap Some (shown-by v (readTimes importRecord (v .count) (v .imports .now)) (sym (from t v e) ∙ q))

@@ -3,5 +3,7 @@ pub mod Faults
 pub mod Records
 pub mod Layout
 pub mod Views
+pub mod Lists
+pub mod Opened
 pub mod Exact
 pub mod Sample

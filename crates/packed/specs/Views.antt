@@ -18,8 +18,8 @@ use Rattle.packed.specs.declared.faults.FaultAt.{FaultAt}
 use Rattle.packed.specs.declared.fields.Header.{Header}
 use Rattle.packed.specs.declared.view.RowHead.{RowHead}
 use Rattle.packed.specs.declared.view.RowView.{RowView}
-use Rattle.packed.specs.Codec.{bind, readTimes}
-use Rattle.packed.specs.Records.{readRecord}
+use Rattle.packed.specs.Codec.{bind, text, readTimes}
+use Rattle.packed.specs.Records.{header, readRecord}
 use Rattle.packed.specs.Layout.{Head, head, count, Entry, entry, importRecord, rowOf, rows}
 
 -- a value and the bytes after it
@@ -47,6 +47,13 @@ outline s = bind (head .read s) (λ h. bind (count .read (h .1)) (λ n. Some (h 
 
 abbrev pub outlined : RowView → Head × (ℕ × List ℕ)
 outlined v = (headIn (v .head), (v .count, v .imports .now))
+
+-- the same of the record at the front, and of the record at an offset
+abbrev pub outlineFirst : List ℕ → Option (Head × (ℕ × List ℕ))
+outlineFirst s = bind (header .read s) (λ h. bind (text (h .0 .0) .read (h .1)) (λ p. outline (p .0)))
+
+abbrev pub outlineAt : List ℕ → ℕ → Option (Head × (ℕ × List ℕ))
+outlineAt s offset = outlineFirst (drop offset s)
 
 -- so many import records from the front of some bytes, or none if they are not there
 abbrev pub recordsIn : ℕ → List ℕ → List ImportRecord

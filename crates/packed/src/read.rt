@@ -6,7 +6,7 @@ ghost use Rattle.rows.specs.Rows.{isNormalSort};
 ghost use Rattle.packed.specs.Codec.{readWhole};
 ghost use Rattle.packed.specs.Records.{readRecord};
 ghost use Rattle.packed.specs.Layout.{head, bare, row, rows};
-ghost use Rattle.packed.specs.Views.{headed, outlined, outline, shown, shownFirst, shownAt, readAt};
+ghost use Rattle.packed.specs.Views.{headed, outlined, outline, outlineFirst, outlineAt, shown, shownFirst, shownAt, readAt};
 use crate::faults::FaultAt;
 use crate::faults::RecordFault;
 use crate::fields::are_imports;
@@ -130,4 +130,23 @@ pub fn read_record(bytes: &[u8], offset: usize) -> Result<Option<(RowView<'_>, u
         Ok((row, size, _)) => Ok(Some((row, offset + size))),
         Err(fault) => Err(FaultAt { fault, offset }),
     }
+}
+
+// A glance at the row in the record that the bytes begin with.
+fn glance_first(bytes: &[u8]) -> Option<RowView<'_>>
+    ensures { λ r. ⌜ mapped outlined r ≡ outlineFirst (now (bytes .entry)) ⌝ }
+{
+    let (header, rest) = take_header(bytes)?;
+    let (payload, _) = rest.split_at_checked(header.size as usize)?;
+    glance(payload)
+}
+
+// The same, of the record at an offset.
+pub(crate) fn glance_at(bytes: &[u8], offset: usize) -> Option<RowView<'_>>
+    ensures { λ r. ⌜ mapped outlined r ≡ outlineAt (now (bytes .entry)) offset ⌝ }
+{
+    if offset > bytes.len() {
+        return None;
+    }
+    glance_first(&bytes[offset..])
 }
