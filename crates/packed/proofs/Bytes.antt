@@ -1,17 +1,18 @@
 -- Numbers of a few bytes, by their bytes.
 use mathlib.Core.Path.{_≡_, refl, sym, ap, _∙_}
 use mathlib.Core.List.{List}
+use mathlib.Core.Logic.{⊎-elim}
 use Prim.Native.Nat.{ℕ, suc, _+_, _-_, _*_, _≤_, _<_}
 use native.Mathlib.Omega.{arith}
 use lib.Dec.{leb}
 use lib.ListN.{length, take, drop, getD}
 use lib.Seq.{drop-cons}
 use Rattle.std.specs.declared.option.Option.{Option}
-use Rattle.std.specs.declared.option.Option.the-variants.{Some}
+use Rattle.std.specs.declared.option.Option.the-variants.{Some, None}
 use Rattle.std.proofs.shelf.Lists.{take-rest, drop-drop, length-drop}
-use Rattle.std.proofs.shelf.Tests.{le-leb}
-use Rattle.packed.specs.Codec.{bind, value, number}
-use Rattle.packed.specs.Records.{header}
+use Rattle.std.proofs.shelf.Tests.{le-leb, lt-leb, cases-lt}
+use Rattle.packed_layout.specs.Codec.{bind, value, number}
+use Rattle.packed_layout.specs.Records.{header}
 
 -- one byte and the others
 value-at : (k i : ℕ) (s : List ℕ) → i < length s → value (take (suc k) (drop i s)) ≡ getD s i 0 + 256 * value (take k (drop (suc i) s))
@@ -54,3 +55,19 @@ header-is s size kind h e f =
     let b : number 2 .read (drop 4 s) ≡ Some (kind, drop 2 (drop 4 s)) = sym (number-is 2 (drop 4 s) kind (simp length-drop (omega arith)) f) in
     let t : take (length s - 6) (drop 6 s) ≡ drop 2 (drop 4 s) = take-rest s 6 ∙ sym (drop-drop 2 4 s) in
     ap (λ (u : List ℕ). Some ((size, kind), u)) t ∙ sym (bind-is _ a ∙ bind-is _ b)
+
+-- too few bytes
+pub number-none : (k : ℕ) (s : List ℕ) → length s < k → None ≡ number k .read s
+number-none k s h = rw (lt-leb k (length s) h)
+
+none-in : (s : List ℕ) → length s < 6 → 4 ≤ length s → None ≡ header .read s
+none-in s h l =
+    let a : number 4 .read s ≡ Some (value (take 4 s), drop 4 s) = sym (number-is 4 s (value (take 4 s)) l refl) in
+    let b : None ≡ number 2 .read (drop 4 s) = number-none 2 (drop 4 s) (simp length-drop (omega arith)) in
+    sym (bind-is _ a ∙ ap (λ (o : Option (ℕ × List ℕ)). bind o (λ q. Some ((value (take 4 s), q .0), q .1))) (sym b))
+
+pub header-none : (s : List ℕ) → length s < 6 → None ≡ header .read s
+header-none s h =
+    ⊎-elim (λ (l : length s < 4). ap (λ (o : Option (ℕ × List ℕ)). bind o (λ p. bind (number 2 .read (p .1)) (λ q. Some ((p .0, q .0), q .1)))) (number-none 4 s l))
+    (λ (l : 4 ≤ length s). none-in s h l)
+    (cases-lt (length s) 4)

@@ -11,8 +11,8 @@ use Rattle.std.specs.declared.option.Option.the-variants.{Some, None}
 use Rattle.std.specs.Options.{isSome}
 use Rattle.std.proofs.shelf.Tests.{ne-eqb}
 use Rattle.rows.specs.declared.ImportRecord.{ImportRecord}
-use Rattle.packed.specs.Codec.{bind, alone, times, readTimes, readWhole}
-use Rattle.packed.specs.Layout.{importRecord}
+use Rattle.packed_layout.specs.Codec.{bind, alone, times, readTimes, readWhole}
+use Rattle.packed_layout.specs.Layout.{importRecord}
 
 -- exactly so many import records, and nothing after them
 abbrev pub whole : ℕ → List ℕ → Option (List ImportRecord)

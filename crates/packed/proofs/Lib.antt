@@ -1,12 +1,5 @@
-pub mod Codecs
-pub mod Framing
-pub mod Refusals
-pub mod Packing
-pub mod Exact
-mod Sample
-mod Bytes
-mod Imports
-mod RowsRead
-mod Offsets
-mod Reading
-mod Opening
+pub mod Bytes
+pub mod Imports
+pub mod RowsRead
+pub mod Offsets
+pub mod Reading

@@ -14,15 +14,15 @@ use Rattle.std.specs.declared.result.Result.the-variants.{Ok, Err}
 use Rattle.std.proofs.shelf.Lists.{take-rest, drop-drop}
 use Rattle.std.proofs.shelf.Tests.{lt-leb, le-leb, leb-true, cond-false, cond-true, cases-lt}
 use Rattle.rows.specs.Rows.{Row}
-use Rattle.packed.specs.declared.faults.RecordFault.{RecordFault}
-use Rattle.packed.specs.declared.faults.RecordFault.the-variants.{EndsInside, UnknownKind, BrokenLayout}
-use Rattle.packed.specs.declared.faults.FaultAt.{FaultAt}
-use Rattle.packed.specs.Codec.{when, text, number}
-use Rattle.packed.specs.Records.{Kinds, header, readRecord, orRefuse}
-use Rattle.packed.specs.Layout.{Entry, entry, rows}
+use Rattle.packed_layout.specs.declared.faults.RecordFault.{RecordFault}
+use Rattle.packed_layout.specs.declared.faults.RecordFault.the-variants.{EndsInside, UnknownKind, BrokenLayout}
+use Rattle.packed_layout.specs.declared.faults.FaultAt.{FaultAt}
+use Rattle.packed_layout.specs.Codec.{when, text, number}
+use Rattle.packed_layout.specs.Records.{Kinds, header, readRecord, orRefuse}
+use Rattle.packed_layout.specs.Layout.{Entry, entry, rows}
 use Rattle.packed.specs.Views.{placed, readAt}
-use Rattle.packed.proofs.Codecs.{when-some, bind-some, some-inj}
-use Rattle.packed.proofs.Framing.{passed, ok-inj}
+use Rattle.packed_layout.proofs.Codecs.{when-some, bind-some, some-inj}
+use Rattle.packed_layout.proofs.Framing.{passed, ok-inj}
 
 -- what follows some bytes
 pub record Follows (n : ℕ) (s rest : List ℕ) : Type 0 where

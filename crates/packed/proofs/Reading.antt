@@ -10,14 +10,12 @@ use Rattle.std.specs.declared.result.Result.{Result}
 use Rattle.std.specs.declared.result.Result.the-variants.{Ok, Err}
 use Rattle.std.proofs.shelf.Lists.{drop-all, length-push}
 use Rattle.rows.specs.Rows.{Row}
-use Rattle.packed.specs.declared.faults.RecordFault.{RecordFault}
-use Rattle.packed.specs.declared.faults.FaultAt.{FaultAt}
-use Rattle.packed.specs.Records.{Read, entries, broken, brokenAt, also, readRecord, readRecords}
-use Rattle.packed.specs.Layout.{Entry, entry, rows, readAll}
-use Rattle.packed.specs.declared.faults.RowFault.the-variants.{Record}
+use Rattle.packed_layout.specs.declared.faults.RecordFault.{RecordFault}
+use Rattle.packed_layout.specs.declared.faults.FaultAt.{FaultAt}
+use Rattle.packed_layout.specs.Records.{Read, entries, broken, brokenAt, also, readRecord, readRecords}
+use Rattle.packed_layout.specs.Layout.{Entry, entry, rows, readAll}
 use Rattle.packed.specs.declared.view.RowView.{RowView}
 use Rattle.packed.specs.Views.{readAt, shownAt}
-use Rattle.packed.specs.Lists.{rowCount}
 use Rattle.packed.proofs.Offsets.{Here, here, Fault, fault, at-end}
 
 -- at most so many records, from an offset on
@@ -97,25 +95,6 @@ left-broken es s offset a p l =
     let n = length s - length es - 1 in
     let fuel : length s - length es ≡ suc n = omega (arith, x .inside, l .behind) in
     sym (l .whole) ∙ ap (alsoAll es) (ap (λ (k : ℕ). from k s offset) fuel ∙ from-err n s offset a p) ∙ alsoAll-broken es a
-
--- the same, of a loop that counts
-abbrev pub Counted : ℕ → List ℕ → ℕ → Type 0
-Counted count s offset = (es : List Entry) × (length es ≡ count) × Left es s offset
-
-pub counted-start : (s : List ℕ) → Counted 0 s 0
-counted-start s = ([], refl, left-start s)
-
-pub counted-turn : (count : ℕ) (e : Entry) (s : List ℕ) (offset next : ℕ) → Ok (Some (e, next)) ≡ readAt s offset → Counted count s offset → Counted (count + 1) s next
-counted-turn count e s offset next p (es, n, l) = (es ++ e ∷ [], length-push es e ∙ ap (λ (k : ℕ). k + 1) n, left-turn es e s offset next p l)
-
-pub counted-few : (count : ℕ) (e : Entry) (s : List ℕ) (offset next : ℕ) → Ok (Some (e, next)) ≡ readAt s offset → Counted count s offset → count < length s
-counted-few count e s offset next p (es, n, l) = let x = here s offset e next p in omega (arith, n, l .behind, x .inside)
-
-pub counted-done : (count : ℕ) (s : List ℕ) (offset : ℕ) → Ok None ≡ readAt s offset → Counted count s offset → Ok count ≡ rowCount (readAll s)
-counted-done count s offset p (es, n, l) = ap Ok (sym n) ∙ sym (ap rowCount (left-done es s offset p l))
-
-pub counted-broken : (count : ℕ) (s : List ℕ) (offset : ℕ) (a : FaultAt) → Err a ≡ readAt s offset → Counted count s offset → Err (Record a) ≡ rowCount (readAll s)
-counted-broken count s offset a p (es, n, l) = sym (ap rowCount (left-broken es s offset a p l))
 
 -- the next record begins further on, within the bytes
 pub further : (e : Entry) (s : List ℕ) (offset next : ℕ) → Ok (Some (e, next)) ≡ readAt s offset → (offset < length s) × (offset < next)

@@ -12,10 +12,10 @@ use Rattle.std.proofs.shelf.Tests.{false≢true}
 use Rattle.rows.specs.declared.ImportRecord.{ImportRecord}
 use Rattle.rows.specs.Rows.{Row, isNormalSort}
 use Rattle.packed.specs.declared.view.RowView.{RowView}
-use Rattle.packed.specs.Codec.{Codec, bind, when, alone, readTimes, readWhole}
-use Rattle.packed.specs.Layout.{Head, head, count, importRecord, importRecords, rowOf, row, bare, allowed}
+use Rattle.packed_layout.specs.Codec.{Codec, bind, when, alone, readTimes, readWhole}
+use Rattle.packed_layout.specs.Layout.{Head, head, count, importRecord, importRecords, rowOf, row, bare, allowed}
 use Rattle.packed.specs.Views.{outline, outlined, recordsIn, shown}
-use Rattle.packed.proofs.Codecs.{never, some-inj, bind-some}
+use Rattle.packed_layout.proofs.Codecs.{never, some-inj, bind-some}
 use Rattle.packed.proofs.Imports.{whole}
 
 -- as many records as were asked for

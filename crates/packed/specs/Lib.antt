@@ -1,9 +1,1 @@
-pub mod Codec
-pub mod Faults
-pub mod Records
-pub mod Layout
 pub mod Views
-pub mod Lists
-pub mod Opened
-pub mod Exact
-pub mod Sample

@@ -13,14 +13,14 @@ use Rattle.std.specs.declared.result.Result.the-variants.{Ok, Err}
 use Rattle.std.specs.Options.{mapped}
 use Rattle.rows.specs.declared.ImportRecord.{ImportRecord}
 use Rattle.rows.specs.Rows.{Row}
-use Rattle.packed.specs.declared.faults.RecordFault.{RecordFault}
-use Rattle.packed.specs.declared.faults.FaultAt.{FaultAt}
+use Rattle.packed_layout.specs.declared.faults.RecordFault.{RecordFault}
+use Rattle.packed_layout.specs.declared.faults.FaultAt.{FaultAt}
 use Rattle.packed.specs.declared.fields.Header.{Header}
 use Rattle.packed.specs.declared.view.RowHead.{RowHead}
 use Rattle.packed.specs.declared.view.RowView.{RowView}
-use Rattle.packed.specs.Codec.{bind, text, readTimes}
-use Rattle.packed.specs.Records.{header, readRecord}
-use Rattle.packed.specs.Layout.{Head, head, count, Entry, entry, importRecord, rowOf, rows}
+use Rattle.packed_layout.specs.Codec.{bind, text, readTimes}
+use Rattle.packed_layout.specs.Records.{header, readRecord}
+use Rattle.packed_layout.specs.Layout.{Head, head, count, Entry, entry, importRecord, rowOf, rows}
 
 -- a value and the bytes after it
 abbrev pub taken : {A : Type 0} → Option (A × RefT (List ℕ)) → Option (A × List ℕ)

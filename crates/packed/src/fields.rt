@@ -1,9 +1,9 @@
 // The parts that packed records are made of. Each is taken off the front of some bytes.
 ghost use mathlib.Core.Path.{_≡_};
 ghost use Rattle.std.specs.Options.{isSome};
-ghost use Rattle.packed.specs.Codec.{number, find, times, readWhole};
-ghost use Rattle.packed.specs.Records.{header};
-ghost use Rattle.packed.specs.Layout.{name, sort, flags, flagsOf, exportsKind, importKind, importRecord, targetOf, count, sortCode, sorts, exportsCode, exportsKinds, kindCode, importKinds};
+ghost use Rattle.packed_layout.specs.Codec.{number, find, times, readWhole};
+ghost use Rattle.packed_layout.specs.Records.{header};
+ghost use Rattle.packed_layout.specs.Layout.{name, sort, flags, flagsOf, exportsKind, importKind, importRecord, targetOf, count, sortCode, sorts, exportsCode, exportsKinds, kindCode, importKinds};
 ghost use Rattle.packed.specs.Views.{taken, cut, heading};
 use rows::ExportsKind;
 use rows::Flags;
@@ -155,7 +155,7 @@ fn target_of(code: u16) -> Option<u16>
 }
 
 // A kind of import and its target.
-pub(crate) fn take_import(bytes: &[u8]) -> Option<(ImportRecord, &[u8])>
+pub fn take_import(bytes: &[u8]) -> Option<(ImportRecord, &[u8])>
     ensures { λ r. ⌜ taken r ≡ importRecord .read (now (bytes .entry)) ⌝ }
 {
     let (code, rest) = take_u8(bytes)?;

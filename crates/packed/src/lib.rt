@@ -1,7 +1,4 @@
-// Packed records: rows read where they lie, and rows written.
-pub mod faults;
-mod fields;
-pub mod laws;
-pub mod list;
+// Reading packed records where they lie.
+pub mod fields;
 pub mod read;
 pub mod view;

@@ -3,12 +3,12 @@ ghost use mathlib.Core.Path.{_≡_};
 ghost use mathlib.Core.Bool.{_||_};
 ghost use Rattle.std.specs.Options.{mapped};
 ghost use Rattle.rows.specs.Rows.{isNormalSort};
-ghost use Rattle.packed.specs.Codec.{readWhole};
-ghost use Rattle.packed.specs.Records.{readRecord};
-ghost use Rattle.packed.specs.Layout.{head, bare, row, rows};
+ghost use Rattle.packed_layout.specs.Codec.{readWhole};
+ghost use Rattle.packed_layout.specs.Records.{readRecord};
+ghost use Rattle.packed_layout.specs.Layout.{head, bare, row, rows};
 ghost use Rattle.packed.specs.Views.{headed, outlined, outline, outlineFirst, outlineAt, shown, shownFirst, shownAt, readAt};
-use crate::faults::FaultAt;
-use crate::faults::RecordFault;
+use packed_layout::faults::FaultAt;
+use packed_layout::faults::RecordFault;
 use crate::fields::are_imports;
 use crate::fields::take_count;
 use crate::fields::take_exports;
@@ -142,7 +142,7 @@ fn glance_first(bytes: &[u8]) -> Option<RowView<'_>>
 }
 
 // The same, of the record at an offset.
-pub(crate) fn glance_at(bytes: &[u8], offset: usize) -> Option<RowView<'_>>
+pub fn glance_at(bytes: &[u8], offset: usize) -> Option<RowView<'_>>
     ensures { λ r. ⌜ mapped outlined r ≡ outlineAt (now (bytes .entry)) offset ⌝ }
 {
     if offset > bytes.len() {

@@ -1,8 +1,8 @@
 use Prim.Native.Nat.{_-_}
 use mathlib.Core.Path.{_≡_}
 use Rattle.std.specs.Options.{isSome}
-use Rattle.packed.specs.Codec.{times, readWhole}
-use Rattle.packed.specs.Layout.{importRecord}
+use Rattle.packed_layout.specs.Codec.{times, readWhole}
+use Rattle.packed_layout.specs.Layout.{importRecord}
 use Rattle.packed.proofs.fields.are_imports.Given as given
 
 -- what is left decides it

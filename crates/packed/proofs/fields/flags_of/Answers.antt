@@ -6,7 +6,7 @@ use native.Mathlib.Nat.{mod-lt}
 use lib.Bits.{bitAnd, and-high}
 use lib.Dec.{eqb}
 use Rattle.std.proofs.shelf.Ways.{tells}
-use Rattle.packed.specs.Layout.{bitOf, flagsOf}
+use Rattle.packed_layout.specs.Layout.{bitOf, flagsOf}
 use Rattle.packed.proofs.fields.flags_of.Needs as need
 
 -- a bit that is masked out is the bit

@@ -1,7 +1,10 @@
 use mathlib.Core.Path.{_∙_}
 use borrow.Author.Needs.{needs}
-use Rattle.packed.proofs.Bytes.{header-is, value-4, value-4-2}
+use Rattle.packed.proofs.Bytes.{header-is, header-none, value-4, value-4-2}
 use Rattle.packed.proofs.fields.take_header.Needs as need
+
+pub returns-in-rest : need.returns-in-rest
+returns-in-rest c = header-none (c .args .bytes .now) (search needs)
 
 pub returns : need.returns
 returns c =
