@@ -7,8 +7,6 @@ ghost use Rattle.packed_layout.specs.Codec.{readWhole};
 ghost use Rattle.packed_layout.specs.Records.{readRecord};
 ghost use Rattle.packed_layout.specs.Layout.{head, bare, row, rows};
 ghost use Rattle.packed.specs.Views.{headed, outlined, outline, outlineFirst, outlineAt, shown, shownFirst, shownAt, readAt};
-use packed_layout::faults::FaultAt;
-use packed_layout::faults::RecordFault;
 use crate::fields::are_imports;
 use crate::fields::take_count;
 use crate::fields::take_exports;
@@ -20,6 +18,8 @@ use crate::fields::take_u16;
 use crate::fields::take_u64;
 use crate::view::RowHead;
 use crate::view::RowView;
+use packed_layout::faults::FaultAt;
+use packed_layout::faults::RecordFault;
 use rows::ExportsKind;
 use rows::Flags;
 use rows::Sort;
@@ -106,9 +106,7 @@ fn first_record(bytes: &[u8]) -> Result<(RowView<'_>, usize, &[u8]), RecordFault
 {
     let (header, rest) = take_header(bytes).ok_or(RecordFault::EndsInside)?;
     let size = header.size as usize;
-    let (payload, after) = rest
-        .split_at_checked(size)
-        .ok_or(RecordFault::EndsInside)?;
+    let (payload, after) = rest.split_at_checked(size).ok_or(RecordFault::EndsInside)?;
     if header.kind != ROW {
         return Err(RecordFault::UnknownKind);
     }

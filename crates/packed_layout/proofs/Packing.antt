@@ -104,11 +104,11 @@ bare-back r e =
     let q = and-parts (eqb (exportsCode (r .exports)) 0) (eqb (length (r .records)) 0) (p .1) in
     record { flags = no-flags (r .flags) (p .0); exports = no-exports (r .exports) (q .0); records = nil-from-length _ (eqb-true _ _ (q .1)) }
 
-external-there : (r : Row) (sort : Sort) → r .sort ≡ sort → (r .sort ≡ External → Bare r) → allowed r ≡ true
+pub external-there : (r : Row) (sort : Sort) → r .sort ≡ sort → (r .sort ≡ External → Bare r) → allowed r ≡ true
 external-there r Normal e h = rw e
 external-there r External e h = rw e (bare-there r (h e))
 
-external-back : (r : Row) → allowed r ≡ true → r .sort ≡ External → Bare r
+pub external-back : (r : Row) → allowed r ≡ true → r .sort ≡ External → Bare r
 external-back r e x = bare-back r (subst (λ sort. (isNormalSort sort || bare (r .flags) (r .exports) (length (r .records))) ≡ true) x e)
 
 abbrev HeadFits : Head → Type 0

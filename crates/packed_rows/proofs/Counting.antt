@@ -33,4 +33,3 @@ counted-done count s offset p (es, n, l) = ap Ok (sym n) ∙ sym (ap rowCount (l
 
 pub counted-broken : (count : ℕ) (s : List ℕ) (offset : ℕ) (a : FaultAt) → Err a ≡ readAt s offset → Counted count s offset → Err (Record a) ≡ rowCount (readAll s)
 counted-broken count s offset a p (es, n, l) = sym (ap rowCount (left-broken es s offset a p l))
-

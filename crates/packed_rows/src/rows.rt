@@ -9,8 +9,6 @@ ghost use Rattle.packed_layout.specs.Layout.{readAll};
 ghost use Rattle.packed_rows.specs.Lists.{rowCount};
 ghost use Rattle.packed.specs.Views.{shown};
 ghost use Rattle.packed_rows.specs.Opened.{rowsIn, numbered, opened, openedAs, Handed-back, Noted};
-use packed_layout::faults::RowFault;
-use packed_layout::faults::RowFaultFromRecord;
 use crate::OpenFault;
 use crate::OpenFaultFromRecord;
 use crate::OpenFaultFromRow;
@@ -19,6 +17,8 @@ use crate::Unopened;
 use packed::read::glance_at;
 use packed::read::read_record;
 use packed::view::RowView;
+use packed_layout::faults::RowFault;
+use packed_layout::faults::RowFaultFromRecord;
 
 // How many rows a list has.
 pub fn count_rows(bytes: &[u8]) -> Result<usize, RowFault>

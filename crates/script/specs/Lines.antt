@@ -38,10 +38,19 @@ linkTo kind s = bind (targetOf s) (λ target. Some (Link (record { kind = kind; 
 -- an import record, as `import:3`
 abbrev pub linkOf : List ℕ → Option Setting
 linkOf s =
-    elim (stripped (codes "import:") s) [ Some t ↦ linkTo Import t | None ↦
-    elim (stripped (codes "require:") s) [ Some t ↦ linkTo Require t | None ↦
-    elim (stripped (codes "dynamic:") s) [ Some t ↦ linkTo DynamicImport t | None ↦
-    elim (stripped (codes "accept:") s) [ Some t ↦ linkTo HotAccept t | None ↦ None ] ] ] ]
+    elim (stripped (codes "import:") s) [
+      | Some t ↦ linkTo Import t
+      | None ↦
+          elim (stripped (codes "require:") s) [
+            | Some t ↦ linkTo Require t
+            | None ↦
+                elim (stripped (codes "dynamic:") s) [
+                  | Some t ↦ linkTo DynamicImport t
+                  | None ↦
+                      elim (stripped (codes "accept:") s) [ Some t ↦ linkTo HotAccept t | None ↦ None ]
+                ]
+          ]
+    ]
 
 -- an output mark, as `mark=7`
 abbrev pub markOf : List ℕ → Option Setting

@@ -5,7 +5,6 @@ use rows::ImportRecord;
 use rows::Sort;
 use std::alloc::AllocError;
 use std::alloc::Refused;
-
 ghost use mathlib.Core.Path.{_≡_};
 ghost use Rattle.script.specs.declared.call.LineFault.the-variants.{Memory};
 

@@ -1,0 +1,3 @@
+// Tables of good, damaged and boundary records, read and packed.
+#[cfg(test)]
+mod tests;

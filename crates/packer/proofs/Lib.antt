@@ -1,0 +1,5 @@
+mod Putting
+mod Digits
+mod Fitting
+mod Lengths
+mod Packing
