@@ -34,12 +34,12 @@ text-follows n s p e =
     let w = when-some (leb n (length s)) (take n s, drop n s) p e in
     record { within = leb-true n (length s) (w .0); rest-is = ap (λ (q : List ℕ × List ℕ). q .1) (sym (w .1)) }
 
-number-follows : (k : ℕ) (s : List ℕ) (p : ℕ × List ℕ) → number k .read s ≡ Some p → Follows k s (p .1)
+pub number-follows : (k : ℕ) (s : List ℕ) (p : ℕ × List ℕ) → number k .read s ≡ Some p → Follows k s (p .1)
 number-follows k s p e =
     let a = bind-some (text k .read s) _ p e in
     subst (λ (q : ℕ × List ℕ). Follows k s (q .1)) (some-inj (a .2)) (text-follows k s (a .0) (a .1))
 
-joins : (m n : ℕ) (s t u : List ℕ) → Follows m s t → Follows n t u → Follows (m + n) s u
+pub joins : (m n : ℕ) (s t u : List ℕ) → Follows m s t → Follows n t u → Follows (m + n) s u
 joins m n s t u f g =
     let long : n ≤ length (drop m s) = subst (λ (x : List ℕ). n ≤ length x) (f .rest-is) (g .within) in
     record { within = omega (arith, length-drop m s, f .within); rest-is = g .rest-is ∙ ap (drop n) (f .rest-is) ∙ drop-drop n m s }

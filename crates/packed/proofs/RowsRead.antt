@@ -14,7 +14,7 @@ use Rattle.rows.specs.Rows.{Row, isNormalSort}
 use Rattle.packed.specs.declared.view.RowView.{RowView}
 use Rattle.packed_layout.specs.Codec.{Codec, bind, when, alone, readTimes, readWhole}
 use Rattle.packed_layout.specs.Layout.{Head, head, count, importRecord, importRecords, rowOf, row, bare, allowed}
-use Rattle.packed.specs.Views.{outline, outlined, recordsIn, shown}
+use Rattle.packed.specs.Views.{outline, outlined, recordsIn, shown, Whole}
 use Rattle.packed_layout.proofs.Codecs.{never, some-inj, bind-some}
 use Rattle.packed.proofs.Imports.{whole}
 
@@ -144,3 +144,12 @@ module _ (t : List ℕ) (value : ℕ × Row) (q : readWhole row t ≡ Some value
   pub row-shown : (r : Option RowView) → mapped outlined r ≡ outline t → mapped shown r ≡ Some value
   row-shown None e = never _ (row-none t e ∙ q)
   row-shown (Some v) e = ap Some (shown-by v (readTimes importRecord (v .count) (v .imports .now)) (sym (from t v e) ∙ q))
+
+  whole-by : (v : RowView) (o : Option (List ImportRecord × List ℕ)) → afterRecords (outlined v .0) o ≡ Some value → isSome (bind o alone) ≡ true
+  whole-by v None e = never _ e
+  whole-by v (Some (es, [])) e = refl
+  whole-by v (Some (es, b ∷ bs)) e = never _ (sym (records-judged (outlined v .0) (es, b ∷ bs)) ∙ e)
+
+  pub row-whole : (r : Option RowView) → mapped outlined r ≡ outline t → Whole r
+  row-whole None e = tt
+  row-whole (Some v) e = whole-by v (readTimes importRecord (v .count) (v .imports .now)) (sym (from t v e) ∙ q)

@@ -1,5 +1,5 @@
 -- What the code's values mean: a part and the rest of some bytes, a row that is read where it lies.
-use mathlib.Core.Bool.{Bool, cond}
+use mathlib.Core.Bool.{Bool, true, cond}
 use mathlib.Core.List.{List, [], _∷_}
 use mathlib.Core.Path.{_≡_}
 use Prim.Native.Nat.{ℕ, _+_}
@@ -10,7 +10,8 @@ use Rattle.std.specs.declared.option.Option.{Option}
 use Rattle.std.specs.declared.option.Option.the-variants.{Some, None}
 use Rattle.std.specs.declared.result.Result.{Result}
 use Rattle.std.specs.declared.result.Result.the-variants.{Ok, Err}
-use Rattle.std.specs.Options.{mapped}
+use Rattle.std.specs.Options.{isSome, mapped}
+use Rattle.std.specs.Slices.{found}
 use Rattle.rows.specs.declared.ImportRecord.{ImportRecord}
 use Rattle.rows.specs.Rows.{Row}
 use Rattle.packed_layout.specs.declared.faults.RecordFault.{RecordFault}
@@ -18,7 +19,7 @@ use Rattle.packed_layout.specs.declared.faults.FaultAt.{FaultAt}
 use Rattle.packed.specs.declared.fields.Header.{Header}
 use Rattle.packed.specs.declared.view.RowHead.{RowHead}
 use Rattle.packed.specs.declared.view.RowView.{RowView}
-use Rattle.packed_layout.specs.Codec.{bind, text, readTimes}
+use Rattle.packed_layout.specs.Codec.{bind, text, times, readTimes, readWhole}
 use Rattle.packed_layout.specs.Records.{header, readRecord}
 use Rattle.packed_layout.specs.Layout.{Head, head, count, Entry, entry, importRecord, rowOf, rows}
 
@@ -62,6 +63,10 @@ recordsIn n s = elim (readTimes importRecord n s) [ None ↦ [] | Some p ↦ p .
 -- the numbered row that a view shows
 abbrev pub shown : RowView → ℕ × Row
 shown v = rowOf (headIn (v .head)) (recordsIn (v .count) (v .imports .now))
+
+-- the bytes of a view's import records are just these records
+abbrev pub Whole : Option RowView → Type 0
+Whole r = found r (λ v. isSome (readWhole (times importRecord (v .count)) (v .imports .now)) ≡ true)
 
 -- a record that was read: its row, how many bytes it takes, and the bytes after it
 abbrev pub shownFirst : Result (RowView × ℕ × RefT (List ℕ)) RecordFault → Result ((ℕ × Row) × ℕ × List ℕ) RecordFault

@@ -27,13 +27,13 @@ use Rattle.packed_layout.specs.Records.{Read, entries, broken, also, header, re
 use Rattle.packed_layout.specs.Layout.{Entry, entry, row, rows, readAll}
 use Rattle.packed_rows.specs.Lists.{rowCount, entriesOf, offsets}
 use Rattle.packed_rows.specs.Opened.{numbered, opened}
-use Rattle.packed.specs.Views.{outline, outlined, outlineFirst, outlineAt, shown, readAt}
+use Rattle.packed.specs.Views.{outline, outlined, outlineFirst, outlineAt, shown, readAt, Whole}
 use Rattle.packed.proofs.Bytes.{bind-is}
 use Rattle.packed_layout.proofs.Codecs.{never, some-inj, when-some}
 use Rattle.packed_layout.proofs.Framing.{passed, ok-inj}
 use Rattle.packed.proofs.Offsets.{Here, here}
 use Rattle.packed.proofs.Reading.{from, alsoAll, Left, left-start, left-turn, left-done, left-broken, from-some, from-none, from-err}
-use Rattle.packed.proofs.RowsRead.{row-shown}
+use Rattle.packed.proofs.RowsRead.{row-shown, row-whole}
 
 -- The offsets of the entries that are read so far.
 abbrev pub Noting : List ℕ → List ℕ → ℕ → Type 0
@@ -132,7 +132,7 @@ entry-stands s (entries es) p k e h = stand (length s) s 0 es p k e h
 entry-stands s (broken a) p k e h = never _ h
 
 -- what a glance at an entry's record shows
-glance-at : (s : List ℕ) (o : ℕ) (value : ℕ × TheRow) (size : ℕ) (rest : List ℕ) → readRecord rows (drop o s) ≡ Ok (value, size, rest) → (r : Option RowView) → mapped outlined r ≡ outlineAt s o → mapped shown r ≡ Some value
+glance-at : (s : List ℕ) (o : ℕ) (value : ℕ × TheRow) (size : ℕ) (rest : List ℕ) → readRecord rows (drop o s) ≡ Ok (value, size, rest) → (r : Option RowView) → mapped outlined r ≡ outlineAt s o → (mapped shown r ≡ Some value) × Whole r
 glance-at s o value size rest e r g =
     passed (header .read (drop o s)) EndsInside _ (value, size, rest) e λ x head e1.
     passed (text (x .0 .0) .read (x .1)) EndsInside _ (value, size, rest) e1 λ p body e2.
@@ -143,7 +143,8 @@ glance-at s o value size rest e r g =
     let what : p .0 ≡ payload = when-some (leb (x .0 .0) 32768) (p .0) payload short .1 in
     let same : a ≡ value = ap (λ (z : (ℕ × TheRow) × ℕ × List ℕ). z .0) (ok-inj e5) in
     let whole : readWhole row (p .0) ≡ Some value = ap (readWhole row) what ∙ ap (λ (f : List ℕ → Option (ℕ × TheRow)). f payload) how ∙ is ∙ ap Some same in
-    row-shown (p .0) value whole r (g ∙ bind-is _ head ∙ bind-is _ body)
+    let seen : mapped outlined r ≡ outline (p .0) = g ∙ bind-is _ head ∙ bind-is _ body in
+    (row-shown (p .0) value whole r seen, row-whole (p .0) value whole r seen)
 
 nth-offsets : (es : List Entry) (k o : ℕ) → nth (map (λ (e : Entry). e .offset) es) k ≡ Some o → (e : Entry) × (nth es k ≡ Some e) × (e .offset ≡ o)
 nth-offsets [] k o h = never _ h
@@ -159,14 +160,15 @@ module _ (s places : List ℕ) (placed : offsets s ≡ places) (k : ℕ) where
   pub row-past : nth places k ≡ None → None ≡ mapped numbered (nth (entriesOf (readAll s)) k)
   row-past h = sym (ap (mapped numbered) (past-offsets (entriesOf (readAll s)) k (ap (λ (z : List ℕ). nth z k) placed ∙ h)))
 
-  pub row-at : (o : ℕ) → nth places k ≡ Some o → (r : Option RowView) → mapped outlined r ≡ outlineAt s o → mapped shown r ≡ mapped numbered (nth (entriesOf (readAll s)) k)
+  pub row-at : (o : ℕ) → nth places k ≡ Some o → (r : Option RowView) → mapped outlined r ≡ outlineAt s o → (mapped shown r ≡ mapped numbered (nth (entriesOf (readAll s)) k)) × Whole r
   row-at o h r g =
       let e = nth-offsets (entriesOf (readAll s)) k o (ap (λ (z : List ℕ). nth z k) placed ∙ h) in
       let t = entry-stands s (readAll s) refl k (e .0) (e .1) in
       let x = here s (e .0 .offset) (e .0) (t .0) (t .1) in
       let at : readRecord rows (drop o s) ≡ Ok (x .value, x .size, drop (t .0) s) = subst (λ (n : ℕ). readRecord rows (drop n s) ≡ Ok (x .value, x .size, drop (t .0) s)) (e .2) (x .is) in
       let same : x .value ≡ numbered (e .0) = ap numbered (x .entry-is) in
-      glance-at s o (x .value) (x .size) (drop (t .0) s) at r g ∙ ap Some same ∙ sym (ap (mapped numbered) (e .1))
+      let seen = glance-at s o (x .value) (x .size) (drop (t .0) s) at r g in
+      (seen .0 ∙ ap Some same ∙ sym (ap (mapped numbered) (e .1)), seen .1)
 
   pub length-at : (n : ℕ) → n ≡ length places → n ≡ length (entriesOf (readAll s))
   length-at n h = h ∙ ap length (sym placed) ∙ length-offsets (entriesOf (readAll s))

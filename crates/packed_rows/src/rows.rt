@@ -7,7 +7,7 @@ ghost use Rattle.std.specs.Runs.{nth};
 ghost use Rattle.std.specs.Of.Vec.{vec-items, vec-cap};
 ghost use Rattle.packed_layout.specs.Layout.{readAll};
 ghost use Rattle.packed_rows.specs.Lists.{rowCount};
-ghost use Rattle.packed.specs.Views.{shown};
+ghost use Rattle.packed.specs.Views.{shown, Whole};
 ghost use Rattle.packed_rows.specs.Opened.{rowsIn, numbered, opened, openedAs, Handed-back, Noted};
 use crate::OpenFault;
 use crate::OpenFaultFromRecord;
@@ -74,7 +74,8 @@ impl<'a> PackedRows<'a> {
 
     // The row in the k-th record. Its import records are not looked at.
     pub fn row(&self, k: usize) -> Option<RowView<'a>>
-        ensures { λ r. ⌜ mapped shown r ≡ mapped numbered (nth (rowsIn (now (self .entry))) k) ⌝ }
+        ensures shown { λ r. ⌜ mapped shown r ≡ mapped numbered (nth (rowsIn (now (self .entry))) k) ⌝ }
+        ensures whole { λ r. ⌜ Whole r ⌝ }
     {
         let place = *self.places.get(k)?;
         glance_at(self.bytes, place)

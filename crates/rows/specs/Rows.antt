@@ -12,6 +12,7 @@ use Rattle.rows.specs.declared.ImportKind.{ImportKind}
 use Rattle.rows.specs.declared.ImportKind.the-variants.{Import, Require, DynamicImport, HotAccept}
 use Rattle.rows.specs.declared.ImportRecord.{ImportRecord}
 use Rattle.rows.specs.declared.Flags.{Flags}
+use Rattle.rows.specs.declared.Facts.{Facts}
 use Rattle.rows.specs.Numbers.{member, concat}
 
 -- one module of a project, or something outside of it that a module imports
@@ -38,6 +39,10 @@ nowhere = record { sort = External; flags = noFlags; exports = ExportsKind.None;
 -- the row of a number
 abbrev pub at : List Row → ℕ → Row
 at rows r = getD rows r nowhere
+
+-- a row, besides its names and its import records
+abbrev pub factsOf : Row → Facts
+factsOf r = record { sort = r .sort; flags = r .flags; exports = r .exports; mark = r .mark }
 
 -- the import is loaded before its importer runs
 abbrev pub isStatic : ImportKind → Bool

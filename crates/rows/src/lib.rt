@@ -1,4 +1,5 @@
 // The rows of a project: what each of them is, and what it imports.
+pub mod graph;
 
 // What a row stands for: a module of the project, or something outside of it.
 #[derive(Clone, Copy, PartialEq, Eq, Debug)]
@@ -37,4 +38,13 @@ pub struct Flags {
     pub self_accepting: bool,
     pub lazy_export: bool,
     pub entry: bool,
+}
+
+// A row, besides its names and its import records.
+#[derive(Clone, Copy)]
+pub struct Facts {
+    pub sort: Sort,
+    pub flags: Flags,
+    pub exports: ExportsKind,
+    pub mark: u64,
 }

@@ -30,6 +30,12 @@ strip-short p s h =
     let all : take (length p) s ≡ s = take-all (length p) s (omega arith) in
     sym (ap (λ (t : List ℕ). when (sameBytes t p) (drop (length p) s)) all ∙ ap (λ b. when b (drop (length p) s)) (shorter s p h))
 
+pub strip-there : (p s front rest : List ℕ) → front ≡ take (length p) s → rest ≡ drop (length p) s → true ≡ sameBytes front p → Some rest ≡ stripped p s
+strip-there p s front rest f r t = ap Some r ∙ ap (λ b. when b (drop (length p) s)) (t ∙ ap (λ (x : List ℕ). sameBytes x p) f)
+
+pub strip-not : (p s front : List ℕ) → front ≡ take (length p) s → false ≡ sameBytes front p → None ≡ stripped p s
+strip-not p s front f t = ap (λ b. when b (drop (length p) s)) (t ∙ ap (λ (x : List ℕ). sameBytes x p) f)
+
 abbrev pub prefixed : List ℕ → Option (List ℕ) → Option (List ℕ)
 prefixed xs o = mapped (λ ys. xs ++ ys) o
 

@@ -4,22 +4,25 @@ use mathlib.Core.Bool.{Bool, true, false, cond}
 use mathlib.Core.List.{List, [], _∷_}
 use Prim.Native.Nat.{ℕ, zero, suc, _+_, _-_, _<_, _≤_}
 use native.Mathlib.Omega.{arith}
+use lib.Chars.{codes}
 use lib.Dec.{eqb}
 use lib.ListN.{length, take, drop, length-drop}
 use Rattle.std.specs.declared.option.Option.{Option}
 use Rattle.std.specs.declared.option.Option.the-variants.{Some, None}
 use Rattle.std.specs.declared.result.Result.{Result}
 use Rattle.std.specs.declared.result.Result.the-variants.{Ok, Err}
+use Rattle.std.specs.shelf.Text.{sameBytes}
 use Rattle.std.proofs.shelf.Tests.{eqb-false}
 use Rattle.rows.specs.Rows.{Row}
+use Rattle.packed_layout.specs.Codec.{bind}
 use Rattle.packed_layout.proofs.Codecs.{never, some-inj}
 use Rattle.script.specs.declared.call.LineFault.{LineFault}
 use Rattle.script.specs.declared.call.LineFault.the-variants.{UnknownSetting}
 use Rattle.script.specs.declared.setting.Setting.{Setting}
 use Rattle.script.specs.declared.words.ByteKind.{ByteKind}
 use Rattle.script.specs.declared.words.ByteKind.the-variants.{Blank, Letter}
-use Rattle.script.specs.Words.{kindOf, sameKind, span, trimmed, firstWord, nextWord}
-use Rattle.script.specs.Lines.{orWrong, settingOf, having, settings}
+use Rattle.script.specs.Words.{kindOf, sameKind, span, trimmed, firstWord, nextWord, shortOf}
+use Rattle.script.specs.Lines.{orWrong, targetOf, settingOf, having, settings}
 
 some-by : (b : Bool) (w x : List ℕ × List ℕ) → cond b None (Some w) ≡ Some x → (b ≡ false) × (w ≡ x)
 some-by true w x e = never _ e
@@ -78,3 +81,17 @@ module _ (r : Row) (s : List ℕ) (r₀ : Row) (s₀ : List ℕ) where
   pub left-done : None ≡ nextWord s → Setting-left r s r₀ s₀ → Ok r ≡ settings (length s₀) r₀ s₀
   left-done p (zero, few, all) = all
   left-done p (suc most, few, all) = ap (step most r) p ∙ all
+
+-- where a record leads
+
+abbrev targetBy : Bool → Option ℕ → Option (Option ℕ)
+targetBy dash o = cond dash (Some None) (bind o (λ n. Some (Some n)))
+
+pub target-dash : (s : List ℕ) → true ≡ sameBytes s (codes "-") → Some None ≡ targetOf s
+target-dash s t = ap (λ b. targetBy b (shortOf s)) t
+
+pub target-row : (s : List ℕ) (n : ℕ) → false ≡ sameBytes s (codes "-") → Some n ≡ shortOf s → Some (Some n) ≡ targetOf s
+target-row s n t e = ap (targetBy false) e ∙ ap (λ b. targetBy b (shortOf s)) t
+
+pub target-not : (s : List ℕ) → false ≡ sameBytes s (codes "-") → None ≡ shortOf s → None ≡ targetOf s
+target-not s t e = ap (targetBy false) e ∙ ap (λ b. targetBy b (shortOf s)) t

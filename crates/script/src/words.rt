@@ -71,11 +71,13 @@ pub(crate) fn at_end(line: &[u8]) -> bool
 fn digit_of(b: u8) -> Option<u8>
     ensures { λ r. ⌜ r ≡ digitOf b ⌝ }
 {
-    if b >= 48 && b <= 57 {
-        Some(b - 48)
-    } else {
-        None
+    if b < b'0' {
+        return None;
     }
+    if b > b'9' {
+        return None;
+    }
+    Some(b - b'0')
 }
 
 fn push_digit(n: u64, b: u8) -> Option<u64>
