@@ -1,0 +1,2 @@
+mod Celled
+mod Cleared

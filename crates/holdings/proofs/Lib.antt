@@ -1,0 +1,5 @@
+pub mod Changes
+pub mod Sizes
+pub mod Taking
+pub mod Putting
+mod Emptying

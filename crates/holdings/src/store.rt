@@ -1,0 +1,44 @@
+// What a store does, whatever it keeps its pairs in.
+ghost use mathlib.Core.Path.{_≡_};
+ghost use mathlib.Core.Bool.{true, cond};
+ghost use Prim.Native.Nat.{ℕ, _<_, _≤_};
+ghost use Rattle.std.specs.Options.{isSome};
+ghost use Rattle.std.specs.Results.{isOk};
+ghost use Rattle.holdings.specs.Answers.{answered};
+ghost use Rattle.holdings.specs.Maps.{Map, put, without, size, takes};
+use super::faults::StoreFault;
+
+// Tablets are 0 to 15.
+pub const TABLETS: u8 = 16;
+
+// Rows are 0 to 4,095.
+pub const ROWS: u16 = 4096;
+
+// A finite map from pairs of a tablet and a row to stamps, and the most pairs that it may have.
+pub trait Holdings {
+    ghost held: { Self → Map };
+
+    ghost mostHeld: { Self → ℕ };
+
+    law inside: { (s : Self) (t r : ℕ) → isSome (held s t r) ≡ true → (t < 16) × (r < 4096) };
+
+    law within: { (s : Self) → size (held s) ≤ mostHeld s };
+
+    fn get(&self, tablet: u8, row: u16) -> Option<u32>
+        ensures { λ r. ⌜ r ≡ held (now (self .entry)) tablet row ⌝ };
+
+    fn count(&self) -> usize
+        ensures { λ r. ⌜ r ≡ size (held (now (self .entry))) ⌝ };
+
+    fn most(&self) -> usize
+        ensures { λ r. ⌜ r ≡ mostHeld (now (self .entry)) ⌝ };
+
+    fn set(&mut self, tablet: u8, row: u16, stamp: u32) -> Result<(), StoreFault>
+        ensures answer { λ r. ⌜ r ≡ answered (takes (mostHeld (now (self .entry))) (held (now (self .entry))) tablet row) ⌝ }
+        ensures after { λ r. ⌜ held (now (self .exit)) ≡ cond (isOk r) (put (held (now (self .entry))) tablet row stamp) (held (now (self .entry))) ⌝ }
+        ensures same { λ _. ⌜ mostHeld (now (self .exit)) ≡ mostHeld (now (self .entry)) ⌝ };
+
+    fn forget(&mut self, tablet: u8)
+        ensures after { λ _. ⌜ held (now (self .exit)) ≡ without (held (now (self .entry))) tablet ⌝ }
+        ensures same { λ _. ⌜ mostHeld (now (self .exit)) ≡ mostHeld (now (self .entry)) ⌝ };
+}

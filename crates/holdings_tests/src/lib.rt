@@ -1,0 +1,3 @@
+// The two stores, run side by side.
+#[cfg(test)]
+mod tests;
