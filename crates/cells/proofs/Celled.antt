@@ -16,7 +16,7 @@ use Rattle.holdings.specs.Maps.{rank, nothing, changed, one}
 use Rattle.holdings.proofs.Changes.{changed-here, changed-tablet, changed-row}
 use Rattle.cells.specs.Cells.{inCells}
 
-pub cells-at : (xs : List (Option ℕ)) (t r : ℕ) → t < 16 → r < 4096 → inCells xs t r ≡ getD xs (rank t r) None
+cells-at : (xs : List (Option ℕ)) (t r : ℕ) → t < 16 → r < 4096 → inCells xs t r ≡ getD xs (rank t r) None
 unfolding inCells
 cells-at xs t r tl rl = cond-true _ _ _ (and-from _ _ (lt-ltb t 16 tl) (lt-ltb r 4096 rl))
 

@@ -15,6 +15,7 @@ use std::alloc::Global;
 // A cell for each of 16 tablets and 4,096 rows.
 const CELLS: usize = 65_536;
 
+// The count is kept beside the cells, so that it need not be taken anew.
 #[derive(Drop)]
 pub struct Cells {
     cells: Vec<Option<u32>>,
@@ -35,7 +36,7 @@ fn place(tablet: u8, row: u16) -> usize
 }
 
 impl Cells {
-    // An empty store that holds at most `most` pairs. There are no more than 65,536, so a larger most counts as that.
+    // An empty store that holds at most `most` pairs; a most above 65,536, the number of cells, counts as that.
     pub fn new(heap: Global, most: usize) -> Result<Cells, AllocError>
         ensures { λ r. ⌜ made r (λ s. (inCells (vec-items (s .cells)) ≡ nothing) × (s .most ≡ min most 65536)) ⌝ }
     {

@@ -1,13 +1,11 @@
 -- How the size of a map follows a change of one pair.
 use mathlib.Core.Path.{_≡_, refl, sym, ap}
 use mathlib.Core.Logic.{⊎-elim}
-use Prim.Native.Nat.{ℕ, zero, suc, _+_, _*_, _≤_, _<_}
-use native.Mathlib.Nat.{suc-mul}
+use Prim.Native.Nat.{ℕ, zero, suc, _+_, _≤_, _<_}
 use native.Mathlib.Omega.{arith}
-use Rattle.std.specs.Options.{isSome}
 use Rattle.std.specs.declared.option.Option.{Option}
 use Rattle.std.specs.declared.option.Option.the-variants.{None}
-use Rattle.std.proofs.shelf.Tests.{cases-eq, cond-both}
+use Rattle.std.proofs.shelf.Tests.{cases-eq}
 use Rattle.holdings.specs.Maps.{Map, nothing, changed, sumTo, one, size}
 use Rattle.holdings.proofs.Changes.{changed-here, changed-tablet, changed-row}
 
@@ -33,21 +31,9 @@ unfolding sumTo
 sum-none w zero h = refl
 sum-none w (suc n) h = let here = h n in let rest = sum-none w n h in omega arith
 
-sum-le : (w : ℕ → ℕ) (b n : ℕ) → ((k : ℕ) → w k ≤ b) → sumTo w n ≤ n * b
-unfolding sumTo
-sum-le w b zero h = omega arith
-sum-le w b (suc n) h = let here = h n in let rest = sum-le w b n h in omega (arith, suc-mul n b)
-
-pub one-le : (o : Option ℕ) → one o ≤ 1
-one-le o = cond-both (isSome o) 1 0 (λ n. n ≤ 1) (λ _. omega arith) (λ _. omega arith)
-
 pub size-nothing : size nothing ≡ 0
 unfolding size nothing
 size-nothing = sum-none _ 16 (λ t. sum-none _ 4096 (λ r. refl))
-
-pub size-le : (m : Map) → size m ≤ 65536
-unfolding size
-size-le m = sum-le _ 4096 16 (λ t. sum-le _ 1 4096 (λ r. one-le (m t r)))
 
 pub size-changed : (m : Map) (t r : ℕ) (o : Option ℕ) → t < 16 → r < 4096 → size (changed m t r o) + one (m t r) ≡ size m + one o
 unfolding size
@@ -63,3 +49,7 @@ size-changed m t r o tl rl =
 -- a pair that is held is counted
 pub one-le-size : (m : Map) (t r : ℕ) → t < 16 → r < 4096 → one (m t r) ≤ size m
 one-le-size m t r tl rl = omega (arith, size-changed m t r None tl rl)
+
+-- a pair that goes leaves the size within what it was within
+pub size-gone : (most : ℕ) (m : Map) (t r : ℕ) → t < 16 → r < 4096 → size m ≤ most → size (changed m t r None) ≤ most
+size-gone most m t r tl rl fits = omega (arith, size-changed m t r None tl rl)

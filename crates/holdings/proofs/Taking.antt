@@ -1,17 +1,17 @@
 -- When a pair is taken, and what is answered.
-use mathlib.Core.Path.{_≡_, refl, sym, ap, _∙_}
+use mathlib.Core.Path.{_≡_, refl, sym, _∙_}
 use mathlib.Core.Bool.{Bool, true, false}
 use mathlib.Core.Logic.{⊎-elim}
-use Prim.Native.Nat.{ℕ, _+_, _≤_, _<_}
+use Prim.Native.Nat.{ℕ, _≤_, _<_}
 use native.Mathlib.Omega.{arith}
 use lib.Dec.{ltb}
 use Rattle.std.specs.Options.{isSome}
 use Rattle.std.specs.Results.{isOk}
 use Rattle.std.specs.declared.option.Option.the-variants.{Some}
-use Rattle.std.proofs.shelf.Tests.{and-from, and-parts, and-right, or-left, or-right, or-from, or-cases, lt-ltb, le-ltb, ltb-true, cond-true, cond-false, cases-bool, both-ways}
+use Rattle.std.proofs.shelf.Tests.{and-from, and-parts, and-right, or-left, or-right, or-from, or-cases, lt-ltb, le-ltb, ltb-true, cond-true, cases-bool}
 use Rattle.holdings.specs.Answers.{answered}
 use Rattle.holdings.specs.Maps.{Map, put, one, size, inRange, takes}
-use Rattle.holdings.proofs.Sizes.{one-le, size-changed}
+use Rattle.holdings.proofs.Sizes.{size-changed}
 
 pub ok-answered : (b : Bool) → isOk (answered b) ≡ b
 ok-answered true = refl

@@ -21,13 +21,13 @@ stampIn stamps row = getD stamps row 0
 abbrev pub putAll : Map → ℕ → List ℕ → (ℕ → ℕ) → Map
 putAll m tablet rows stamp t r = cond (eqb t tablet && member r rows) (Some (stamp r)) (m t r)
 
--- whether a row of the tablet is not held
-abbrev pub vacant : Map → ℕ → ℕ → Bool
-vacant m tablet row = not (isSome (m tablet row))
+-- whether a row of the tablet is absent: not held
+abbrev pub isAbsent : Map → ℕ → ℕ → Bool
+isAbsent m tablet row = not (isSome (m tablet row))
 
--- how many of these rows of the tablet are not held, counted along the list
+-- how many of these rows of the tablet are absent, counted along the list
 unfoldable pub absent : Map → ℕ → List ℕ → ℕ
-absent m tablet rows = countBy (vacant m tablet) rows
+absent m tablet rows = countBy (isAbsent m tablet) rows
 
 -- whether a store that holds at most `most` pairs has no room for all of these rows
 abbrev pub fullFor : ℕ → Map → ℕ → List ℕ → Bool

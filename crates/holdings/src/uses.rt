@@ -43,6 +43,7 @@ fn stamp_of(stamps: &[u32], row: u16) -> u32
     }
 }
 
+// Whether every row is in range, and there is room for those that are absent.
 fn takes_all<S: Holdings>(store: &S, tablet: u8, rows: &[u16]) -> bool
     ensures { λ r. ⌜ r ≡ takesAll (mostHeld (now (store .entry))) (held (now (store .entry))) tablet (now (rows .entry)) ⌝ }
 {

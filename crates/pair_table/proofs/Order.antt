@@ -5,12 +5,12 @@ use mathlib.Core.List.{List, [], _∷_, _++_}
 use mathlib.Core.Logic.{⊎-elim}
 use Prim.Native.Nat.{ℕ, zero, suc, _+_, _≤_, _<_}
 use native.Mathlib.Omega.{arith}
-use lib.ListN.{length, getD, set, take, drop}
+use lib.ListN.{length, getD, take, drop}
 use Rattle.std.specs.shelf.Lists.{All, kept-by}
-use Rattle.std.proofs.shelf.Elements.{all-append, all-take, all-drop, all-kept-by, all-from-getD, all-getD, all-weaker, all-set}
+use Rattle.std.proofs.shelf.Elements.{all-append, all-take, all-drop, all-kept-by, all-from-getD, all-getD}
 use Rattle.std.proofs.shelf.Lists.{getD-read}
 use Rattle.std.proofs.shelf.Tests.{cases-eq, cond-both}
-use Rattle.pair_table.specs.Pairs.{rankOf, Inside, Ordered, Found, Missing}
+use Rattle.pair_table.specs.Pairs.{rankOf, Inside, Ordered, Missing}
 use Rattle.pair_table.specs.declared.pair.Pair.{Pair}
 
 -- ---- what a pair that was read tells of the others

@@ -67,8 +67,8 @@ keeps (p ∷ ps) tablet =
     let rest = keeps ps tablet in
     cond-both (elsewhere tablet p) (p ∷ kept-by (elsewhere tablet) ps) (kept-by (elsewhere tablet) ps)
     (λ qs. inPairs qs ≡ without (put (inPairs ps) (p .tablet) (p .row) (p .stamp)) tablet)
-    (λ yes′. ap (λ m. put m (p .tablet) (p .row) (p .stamp)) rest ∙ without-other (inPairs ps) (p .tablet) (p .row) tablet (Some (p .stamp)) (eqb-false _ _ (not-true _ yes′)))
-    (λ no′. rest ∙ without-same (inPairs ps) (p .tablet) (p .row) tablet (Some (p .stamp)) (eqb-true _ _ (not-false _ no′)))
+    (λ other. ap (λ m. put m (p .tablet) (p .row) (p .stamp)) rest ∙ without-other (inPairs ps) (p .tablet) (p .row) tablet (Some (p .stamp)) (eqb-false _ _ (not-true _ other)))
+    (λ own. rest ∙ without-same (inPairs ps) (p .tablet) (p .row) tablet (Some (p .stamp)) (eqb-true _ _ (not-false _ own)))
 
 -- ---- the whole table
 

@@ -22,6 +22,7 @@ use std::alloc::Global;
 // Pairs are shifted to keep the order, so a table is for few of them.
 const PAIRS: usize = 512;
 
+// Memory for `most` pairs is reserved, and those that are held stand in order.
 #[derive(Drop)]
 pub struct PairTable {
     pairs: Vec<Pair>,
@@ -33,7 +34,7 @@ pub struct PairTable {
 }
 
 impl PairTable {
-    // An empty store that holds at most `most` pairs; a most above 512 counts as 512. All of its memory is reserved here.
+    // An empty store that holds at most `most` pairs; a most above 512 counts as that. Its memory is reserved here, once.
     pub fn new(heap: Global, most: usize) -> Result<PairTable, AllocError>
         ensures { λ r. ⌜ made r (λ s. (inPairs (vec-items (s .pairs)) ≡ nothing) × (s .most ≡ min most 512)) ⌝ }
     {

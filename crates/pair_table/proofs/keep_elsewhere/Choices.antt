@@ -1,5 +1,5 @@
 use mathlib.Core.Path.{_≡_}
-use Rattle.std.specs.Of.Vec.{vec-items, vec-len, vec-cap}
+use Rattle.std.specs.Of.Vec.{vec-cap}
 use Rattle.std.proofs.shelf.Filters.{Keeping}
 use Rattle.pair_table.specs.Pairs.{elsewhere}
 use Rattle.pair_table.proofs.keep_elsewhere.Given as given

@@ -1,8 +1,8 @@
-use mathlib.Core.Path.{_≡_, refl, sym, ap, _∙_}
+use mathlib.Core.Path.{_≡_, refl, ap, _∙_}
 use native.Mathlib.Omega.{arith}
 use Rattle.std.specs.declared.option.Option.the-variants.{None}
 use Rattle.holdings.specs.Maps.{changed}
-use Rattle.holdings.proofs.Sizes.{size-changed}
+use Rattle.holdings.proofs.Sizes.{size-gone}
 use Rattle.cells.specs.Cells.{inCells}
 use Rattle.cells.proofs.Cleared.{cleared, cleared-none, cleared-more, cleared-all, without-past}
 use Rattle.cells.proofs.CellsHoldings.forget.Needs as need
@@ -11,11 +11,7 @@ pub loop-row-holds : need.loop-row-holds
 loop-row-holds c = (cleared-none _ (c .args .tablet), refl)
 
 pub write-requires : need.write-requires
-write-requires c κs = record {
-  tablets = omega arith;
-  rows = omega arith;
-  room = omega (arith, size-changed (inCells (c .loop-row .self .cells .items)) (c .args .tablet) (c .loop-row .row) None (omega arith) (omega arith));
-}
+write-requires c κs = record { tablets = omega arith; rows = omega arith; room = size-gone _ _ _ _ (omega arith) (omega arith) (omega arith) }
 
 pub loop-row-again : need.loop-row-again
 loop-row-again c = (

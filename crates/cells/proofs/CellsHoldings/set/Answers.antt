@@ -14,4 +14,4 @@ write-requires c κs =
     let r = c .args .row in
     let taken : takes (s .most) m t r ≡ true = sym (c .if-not-has-room .ensures tt) in
     let range = taken-in-range (s .most) m t r taken in
-    record { tablets = range .0; rows = range .1; room = size-taken (s .most) m t r (c .args .stamp) taken (omega arith) }
+    record { tablets = range .0; rows = range .1; room = size-taken (s .most) m t r _ taken (omega arith) }

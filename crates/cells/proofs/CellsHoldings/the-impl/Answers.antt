@@ -1,4 +1,3 @@
-use native.Mathlib.Omega.{arith}
 use borrow.Author.Needs.{needs}
 use Rattle.cells.specs.Cells.{inCells}
 use Rattle.cells.proofs.CellsHoldings.the-impl.Needs as need

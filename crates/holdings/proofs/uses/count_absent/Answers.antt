@@ -1,11 +1,11 @@
 use mathlib.Core.Path.{_≡_, sym, ap, _∙_}
 use native.Mathlib.Omega.{arith}
-use lib.ListN.{getD, drop}
+use lib.ListN.{getD}
 use Rattle.std.specs.Options.{isSome}
 use Rattle.std.proofs.shelf.Lists.{at-drop-more, at-drop-all}
 use Rattle.std.proofs.shelf.Tests.{cond-true, cond-false, not-from-true, not-from-false}
-use Rattle.holdings.specs.Puts.{absent, vacant}
-use Rattle.holdings.proofs.Putting.{absent-none, absent-cons, vacancy}
+use Rattle.holdings.specs.Puts.{absent}
+use Rattle.holdings.proofs.Putting.{absent-none, absent-cons, absence}
 use Rattle.holdings.proofs.uses.count_absent.Needs as need
 use Rattle.holdings.proofs.uses.count_absent.Needs.{then-is-none, else-is-none}
 
@@ -19,10 +19,10 @@ loop-row-again g c =
     let next = at-drop-more (absent m t) rows i 0 (c .loop-row-test .taken) ∙ absent-cons m t row _ in
     elim (c .if-is-none .came) [
       | then-is-none w ↦
-          (let new : vacancy m t row ≡ 1 = cond-true _ _ _ (not-from-false _ (ap isSome (sym (c .get .ensures)) ∙ w .if-is-none .ensures tt)) in
+          (let new : absence m t row ≡ 1 = cond-true _ _ _ (not-from-false _ (ap isSome (sym (c .get .ensures)) ∙ w .if-is-none .ensures tt)) in
           (omega (arith, w .count-is), omega (arith, w .count-is)))
       | else-is-none w ↦
-          (let old : vacancy m t row ≡ 0 = cond-false _ _ _ (not-from-true _ (ap isSome (sym (c .get .ensures)) ∙ w .if-is-none .ensures tt)) in
+          (let old : absence m t row ≡ 0 = cond-false _ _ _ (not-from-true _ (ap isSome (sym (c .get .ensures)) ∙ w .if-is-none .ensures tt)) in
           (omega (arith, w .count-is), omega (arith, w .count-is)))
     ]
 

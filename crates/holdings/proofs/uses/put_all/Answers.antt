@@ -1,15 +1,14 @@
 use mathlib.Core.Path.{_≡_, refl, sym, ap, _∙_}
 use mathlib.Core.Bool.{true, false}
 use Prim.Native.Nat.{_+_}
-use native.Mathlib.Omega.{arith}
-use lib.ListN.{getD, take, drop}
+use lib.ListN.{getD, drop}
 use Rattle.std.specs.Results.{isOk}
 use Rattle.std.proofs.shelf.Lists.{take-all, at-drop-more}
 use Rattle.std.proofs.shelf.Sums.{folded-more}
 use Rattle.std.proofs.shelf.Tests.{cond-true}
 use Rattle.holdings.specs.Answers.{answered}
 use Rattle.holdings.specs.Maps.{put, takes}
-use Rattle.holdings.specs.Puts.{putAll, putEach, takesAll, stampIn}
+use Rattle.holdings.specs.Puts.{putEach, takesAll, stampIn}
 use Rattle.holdings.proofs.Putting.{each-is-all, taken-more, one-by-one-refused, one-by-one-put}
 use Rattle.holdings.proofs.Taking.{ok-answered}
 use Rattle.holdings.proofs.uses.put_all.Needs as need
