@@ -1,4 +1,6 @@
 // Reading packed records where they lie.
+#![tactic(auto)]
+
 pub mod fields;
 pub mod read;
 pub mod view;

@@ -1,4 +1,6 @@
 // A packed list that is read where it lies: where its records begin.
+#![tactic(auto)]
+
 ghost use Rattle.std.specs.Prelude.{◌≡◌};
 ghost use Rattle.packed_rows.specs.Lists.{offsets};
 ghost use Rattle.packed_rows.specs.declared.OpenFault.TheVariants.{Row};

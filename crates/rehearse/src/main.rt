@@ -1,4 +1,6 @@
 // Rehearses a script: reads calls from standard input, a line each, and prints what each answers.
+#![tactic(auto)]
+
 mod bench;
 mod show;
 

@@ -1,4 +1,6 @@
 // The rows of a project: what each of them is, and what it imports.
+#![tactic(auto)]
+
 pub mod graph;
 
 // What a row stands for: a module of the project, or something outside of it.

@@ -5,20 +5,20 @@ use Rattle.module_table.proofs.links.has_dangling.Goals as goal
 
 pub returns-in-default : goal.returns-in-default
 returns-in-default c =
-    absurd (records-fail c.args.count (c.args.row.now.count - c.loop-i.-i) (c.args.row.now.count - (c.loop-i.-i + 1)) c.loop-i.rest.now (omega arith) c.loop-i.invariant.0 c.in-default.ensures)
+    absurd (records-fail c.args.count (c.args.row.now.count - c.loop-i._i) (c.args.row.now.count - (c.loop-i._i + 1)) c.loop-i.rest.now (omega arith) c.loop-i.invariant.0 c.in-default.ensures)
 
 pub returns-then-is-missing : goal.returns-then-is-missing
 returns-then-is-missing c =
-    let left = c.args.row.now.count - c.loop-i.-i in
-    let less = c.args.row.now.count - (c.loop-i.-i + 1) in
+    let left = c.args.row.now.count - c.loop-i._i in
+    let less = c.args.row.now.count - (c.loop-i._i + 1) in
     let one : left ≡ suc less = omega arith in
     let step = records-step c.args.count left less c.loop-i.rest.now one c.loop-i.invariant.0 c.in-Some.record c.in-Some.more.now c.in-Some.ensures in
     sym (sym c.loop-i.invariant.1 ∙ step ∙ ap (λ b. b || leading c.args.count (records_in less c.in-Some.more.now)) (sym c.if-is-missing.ensures))
 
 pub loop-i-preserved : goal.loop-i-preserved
 loop-i-preserved c =
-    let left = c.args.row.now.count - c.loop-i.-i in
-    let less = c.args.row.now.count - (c.loop-i.-i + 1) in
+    let left = c.args.row.now.count - c.loop-i._i in
+    let less = c.args.row.now.count - (c.loop-i._i + 1) in
     let one : left ≡ suc less = omega arith in
     let step = records-step c.args.count left less c.loop-i.rest.now one c.loop-i.invariant.0 c.in-Some.record c.in-Some.more.now c.in-Some.ensures in (
       records-there c.args.count left less c.loop-i.rest.now one c.loop-i.invariant.0 c.in-Some.record c.in-Some.more.now c.in-Some.ensures,

@@ -9,5 +9,5 @@ use Rattle.module_table.proofs.links.has_dangling.Given as goal
 -- the records that are left are there, and decide it
 abbrev pub invariant-loop-i : goal.invariant-loop-i
 invariant-loop-i l =
-    (is_some (read_times import_record (l.row.count - l.-i) l.rest) ≡ true)
-    × (leading l.count (records_in (l.row.count - l.-i) l.rest) ≡ dangling l.count (shown l.row).1)
+    (is_some (read_times import_record (l.row.count - l._i) l.rest) ≡ true)
+    × (leading l.count (records_in (l.row.count - l._i) l.rest) ≡ dangling l.count (shown l.row).1)

@@ -5,4 +5,4 @@ use Rattle.packed.proofs.fields.are_imports.Given as goal
 
 -- what is left decides it
 abbrev pub invariant-loop-i : goal.invariant-loop-i
-invariant-loop-i l = is_some (read_whole (times import_record (l.count - l.-i)) l.rest) ≡ is_some (read_whole (times import_record l.count) l.bytes)
+invariant-loop-i l = is_some (read_whole (times import_record (l.count - l._i)) l.rest) ≡ is_some (read_whole (times import_record l.count) l.bytes)

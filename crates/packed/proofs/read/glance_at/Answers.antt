@@ -7,4 +7,4 @@ pub returns-then-offset-bytes : goal.returns-then-offset-bytes
 returns-then-offset-bytes c = sym (ap outline_first (drop_all c.args.offset c.args.bytes.now (omega arith)))
 
 pub returns : goal.returns
-returns c = c.glance-first.ensures ∙ ap outline_first (take_rest c.args.bytes.now c.args.offset)
+returns c = c.glance_first.ensures ∙ ap outline_first (take_rest c.args.bytes.now c.args.offset)

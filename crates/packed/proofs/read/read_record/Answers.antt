@@ -3,8 +3,8 @@ use Rattle.packed.specs.Views.{shown}
 use Rattle.packed.proofs.Offsets.{at_here, next_fits}
 use Rattle.packed.proofs.read.read_record.Goals as goal
 
-pub overflow-add-result : goal.overflow-add-result
-overflow-add-result c =
+pub overflow_add-result : goal.overflow_add-result
+overflow_add-result c =
     let s = c.args.bytes.now in
     let h : c.args.offset + c.in-Ok.size ≤ length s = next_fits s c.args.offset (shown c.in-Ok.row, c.in-Ok.size, c.in-Ok.field-0-2.now) (omega arith) c.in-Ok.ensures.shown in
     omega arith
