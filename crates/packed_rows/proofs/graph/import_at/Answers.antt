@@ -12,4 +12,4 @@ returns-then-place-imports c = import-past c.args.imports.now c.args.place (omeg
 pub returns : goal.returns
 returns c =
     let s = c.args.imports.now in
-    ap (option_map (λ (p : ImportRecord × List ℕ). p.0)) c.in-ok-record.ensures ∙ ap (λ (t : List ℕ). option_map (λ (p : ImportRecord × List ℕ). p.0) (import_record.read t)) (take_rest s (3 * c.args.place))
+    ap (option_map (λ (p : ImportRecord × List ℕ). p.0)) c.in_ok-record.ensures ∙ ap (λ (t : List ℕ). option_map (λ (p : ImportRecord × List ℕ). p.0) (import_record.read t)) (take_rest s (3 * c.args.place))
