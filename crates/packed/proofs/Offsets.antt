@@ -1,5 +1,5 @@
 -- A record at an offset, and what is read from there on.
-use Rattle.std.proofs.Common.{◌≡◌, ℕ, zero, suc, ◌+◌, ◌-◌, ◌<◌, ◌≤◌, Bool, true, false, cond, leb, ◌⊎◌, List, [], ◌∷◌, ◌++◌, map, length, take, drop, Some, None, Ok, Err, Option, Result, sym, refl, ap, ◌∙◌, subst, inl, inr, ⊎_elim, arith, length-drop}
+use Rattle.std.proofs.Common.{◌≡◌, ℕ, ◌+◌, ◌-◌, ◌<◌, ◌≤◌, leb, ◌⊎◌, List, length, take, drop, Some, None, Ok, Err, Option, Result, sym, refl, ap, ◌∙◌, subst, inl, inr, ⊎_elim, arith, length-drop}
 use Rattle.std.proofs.lemmas.List.{take_rest, drop-drop}
 use Rattle.std.proofs.lemmas.Bool.{lt-leb, le-leb, leb-true, cond-false, cond-true, cases_lt}
 use Rattle.rows.specs.Rows.{Row}
@@ -7,7 +7,7 @@ use Rattle.packed_layout.specs.declared.faults.RecordFault.{RecordFault}
 use Rattle.packed_layout.specs.declared.faults.RecordFault.TheVariants.{EndsInside, UnknownKind, BrokenLayout}
 use Rattle.packed_layout.specs.declared.faults.FaultAt.{FaultAt}
 use Rattle.packed_layout.specs.Codec.{when, text, number}
-use Rattle.packed_layout.specs.Records.{Kinds, header, read_record, or_refuse}
+use Rattle.packed_layout.specs.Records.{Kinds, header, read_record}
 use Rattle.packed_layout.specs.Layout.{Entry, entry, rows}
 use Rattle.packed.specs.Views.{placed, read_at}
 use Rattle.packed_layout.proofs.Codecs.{when-some, bind-some, some_inj}

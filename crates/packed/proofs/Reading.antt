@@ -1,5 +1,5 @@
 -- What is read of a list from an offset on.
-use Rattle.std.proofs.Common.{◌≡◌, ℕ, zero, suc, ◌+◌, ◌-◌, ◌<◌, ◌≤◌, List, [], ◌∷◌, ◌++◌, map, length, drop, Some, None, Ok, Err, Option, Result, sym, refl, ap, ◌∙◌, subst, arith, length-drop}
+use Rattle.std.proofs.Common.{◌≡◌, ℕ, zero, suc, ◌+◌, ◌-◌, ◌<◌, ◌≤◌, List, [], ◌∷◌, ◌++◌, length, drop, Some, None, Ok, Err, Option, Result, sym, refl, ap, ◌∙◌, arith, length-drop}
 use Rattle.std.proofs.lemmas.List.{drop_all, length_push}
 use Rattle.rows.specs.Rows.{Row}
 use Rattle.packed_layout.specs.declared.faults.RecordFault.{RecordFault}
@@ -8,7 +8,7 @@ use Rattle.packed_layout.specs.Records.{Read, entries, broken, broken_at, also, 
 use Rattle.packed_layout.specs.Layout.{Entry, entry, rows, read_all}
 use Rattle.packed.specs.declared.view.RowView.{RowView}
 use Rattle.packed.specs.Views.{read_at, shown_at}
-use Rattle.packed.proofs.Offsets.{Here, here, Fault, fault, at-end}
+use Rattle.packed.proofs.Offsets.{here, fault, at-end}
 
 -- at most so many records, from an offset on
 abbrev pub from : ℕ → List ℕ → ℕ → Read Entry

@@ -1,5 +1,5 @@
 -- The row in a payload, by what a glance at it shows.
-use Rattle.std.proofs.Common.{◌≡◌, ℕ, zero, suc, Bool, true, false, ◌||◌, List, [], ◌∷◌, length, is_some, Some, None, Option, sym, refl, ap, ◌∙◌, subst, arith}
+use Rattle.std.proofs.Common.{◌≡◌, ℕ, zero, suc, Bool, true, false, ◌||◌, List, [], ◌∷◌, length, is_some, Some, None, Option, sym, refl, ap, ◌∙◌}
 use Rattle.std.specs.Option.{option_map}
 use Rattle.std.proofs.lemmas.Bool.{false≢true}
 use Rattle.rows.specs.declared.ImportRecord.{ImportRecord}
@@ -7,7 +7,7 @@ use Rattle.rows.specs.Rows.{Row, is_normal_sort}
 use Rattle.packed.specs.declared.view.RowView.{RowView}
 use Rattle.packed_layout.specs.Codec.{Codec, bind, when, alone, read_times, read_whole}
 use Rattle.packed_layout.specs.Layout.{Head, head, count, import_record, import_records, row_of, row, bare, allowed}
-use Rattle.packed.specs.Views.{outline, outlined, records_in, shown, Whole}
+use Rattle.packed.specs.Views.{outline, outlined, shown, Whole}
 use Rattle.packed_layout.proofs.Codecs.{never, some_inj, bind-some}
 use Rattle.packed.proofs.Imports.{whole}
 

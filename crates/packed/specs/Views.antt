@@ -1,5 +1,5 @@
 -- What the code's values mean: a part and the rest of some bytes, a row that is read where it lies.
-use Rattle.std.specs.Prelude.{◌≡◌, ℕ, ◌+◌, Bool, true, cond, List, [], ◌∷◌, length, drop, is_some, IfSome, Some, None, Ok, Err, Option, Result, nat_le}
+use Rattle.std.specs.Prelude.{◌≡◌, ℕ, ◌+◌, true, cond, List, [], length, drop, is_some, IfSome, Some, None, Ok, Err, Option, Result, nat_le}
 use Rattle.std.specs.Borrow.{Bor}
 use Rattle.std.specs.Option.{option_map}
 use Rattle.rows.specs.declared.ImportRecord.{ImportRecord}

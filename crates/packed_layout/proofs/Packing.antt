@@ -1,8 +1,8 @@
 -- The codecs of a row are lawful.
-use Rattle.std.proofs.Common.{◌≡◌, ℕ, ◌^◌, ◌<◌, ◌≤◌, Bool, true, false, not, ◌||◌, eqb, leb, List, [], ◌∷◌, length, Some, None, Option, sym, refl, ap, ◌∙◌, subst, arith, lit<, lit≤}
+use Rattle.std.proofs.Common.{◌≡◌, ℕ, ◌^◌, ◌<◌, ◌≤◌, Bool, true, false, ◌||◌, eqb, leb, List, length, Some, None, Option, sym, refl, ap, ◌∙◌, subst, arith, lit<, lit≤}
 use Rattle.std.specs.List.{AllByRecursion as All}
 use Rattle.std.proofs.lemmas.List.{nil_from_length}
-use Rattle.std.proofs.lemmas.Bool.{eqb-true, eqb-false, ne_eqb, le-leb, leb-true, and_parts, not-true}
+use Rattle.std.proofs.lemmas.Bool.{eqb-true, eqb-false, ne_eqb, le-leb, leb-true, and_parts}
 use Rattle.std.proofs.lemmas.Bool.Decides.{nat_tests}
 use Rattle.rows.specs.declared.Sort.{Sort}
 use Rattle.rows.specs.declared.Sort.TheVariants.{Normal, External}
@@ -11,7 +11,7 @@ use Rattle.rows.specs.declared.ImportKind.{ImportKind}
 use Rattle.rows.specs.declared.ImportKind.TheVariants.{Import, Require, DynamicImport, HotAccept}
 use Rattle.rows.specs.declared.ImportRecord.{ImportRecord}
 use Rattle.rows.specs.declared.Flags.{Flags}
-use Rattle.rows.specs.Rows.{Row, is_normal_sort, is_normal, no_flags}
+use Rattle.rows.specs.Rows.{Row, is_normal_sort, no_flags}
 use Rattle.packed_layout.specs.Layout
 use Rattle.packed_layout.specs.Layout.{Head, row_of, head_of, flags_code, flags_of, target_code, target_of, sort_code, sorts, exports_code, exports_kinds, kind_code, import_kinds, bare, allowed}
 use Rattle.packed_layout.specs.Exact.{Name, Resolved, Bare, Fits}

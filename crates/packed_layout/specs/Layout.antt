@@ -1,5 +1,5 @@
 -- The layout of a row, and what reading a list of packed rows gives.
-use Rattle.std.specs.Prelude.{ℕ, ◌+◌, ◌/◌, ◌%◌, Bool, cond, not, ◌&&◌, ◌||◌, List, [], ◌∷◌, length, Some, None, Option, ◌==◌, nat_le}
+use Rattle.std.specs.Prelude.{ℕ, ◌+◌, ◌/◌, ◌%◌, Bool, cond, ◌&&◌, ◌||◌, List, [], ◌∷◌, length, Some, None, Option, ◌==◌, nat_le}
 use Rattle.rows.specs.declared.Sort.{Sort}
 use Rattle.rows.specs.declared.Sort.TheVariants.{Normal, External}
 use Rattle.rows.specs.declared.ExportsKind.{ExportsKind}
@@ -8,7 +8,7 @@ use Rattle.rows.specs.declared.ImportKind.TheVariants.{Import, Require, DynamicI
 use Rattle.rows.specs.declared.ImportRecord.{ImportRecord}
 use Rattle.rows.specs.declared.Flags.{Flags}
 use Rattle.rows.specs.Rows.{Row, is_normal}
-use Rattle.packed_layout.specs.Codec.{Codec, bind, number, text, ◌then◌, seen, such, times, counted, within, one_of, read_whole}
+use Rattle.packed_layout.specs.Codec.{Codec, number, text, ◌then◌, seen, such, times, counted, within, one_of}
 use Rattle.packed_layout.specs.Records.{Kinds, only, pack, Read, read_list}
 
 -- The fields of a row, each with its codes.

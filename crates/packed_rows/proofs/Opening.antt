@@ -1,5 +1,5 @@
 -- Opening a list, and the rows of an opened one.
-use Rattle.std.proofs.Common.{◌≡◌, ℕ, zero, suc, ◌+◌, ◌-◌, ◌<◌, ◌≤◌, Bool, cond, eqb, leb, List, [], ◌∷◌, ◌++◌, map, length, drop, Some, None, Ok, Err, Option, Result, sym, refl, ap, ◌∙◌, subst, arith}
+use Rattle.std.proofs.Common.{◌≡◌, ℕ, zero, suc, ◌-◌, ◌<◌, ◌≤◌, eqb, leb, List, [], ◌∷◌, ◌++◌, map, length, drop, Some, None, Ok, Err, Option, Result, sym, refl, ap, ◌∙◌, subst, arith}
 use Rattle.std.specs.Option.{option_map}
 use Rattle.std.specs.List.{slice_get}
 use Rattle.std.proofs.lemmas.List.{length_push, map_push}
@@ -9,19 +9,18 @@ use Rattle.packed_layout.specs.declared.faults.FaultAt.{FaultAt}
 use Rattle.packed_layout.specs.declared.faults.RecordFault.TheVariants.{EndsInside, UnknownKind, BrokenLayout}
 use Rattle.packed_layout.specs.declared.faults.RowFault.{RowFault}
 use Rattle.packed_layout.specs.declared.faults.RowFault.TheVariants.{Record}
-use Rattle.packed_rows.specs.declared.OpenFault.{OpenFault}
 use Rattle.packed_rows.specs.declared.OpenFault.TheVariants.{Row, Short}
 use Rattle.packed.specs.declared.view.RowView.{RowView}
-use Rattle.packed_layout.specs.Codec.{bind, when, text, read_whole}
+use Rattle.packed_layout.specs.Codec.{when, text, read_whole}
 use Rattle.packed_layout.specs.Records.{Read, entries, broken, also, header, read_record}
-use Rattle.packed_layout.specs.Layout.{Entry, entry, row, rows, read_all}
+use Rattle.packed_layout.specs.Layout.{Entry, row, rows, read_all}
 use Rattle.packed_rows.specs.Lists.{row_count, entries_of, offsets}
 use Rattle.packed_rows.specs.Opened.{numbered, opened}
-use Rattle.packed.specs.Views.{outline, outlined, outline_first, outline_at, shown, read_at, Whole}
+use Rattle.packed.specs.Views.{outline, outlined, outline_at, shown, read_at, Whole}
 use Rattle.packed.proofs.Bytes.{bind_is}
 use Rattle.packed_layout.proofs.Codecs.{never, some_inj, when-some}
 use Rattle.packed_layout.proofs.Framing.{passed, ok-inj}
-use Rattle.packed.proofs.Offsets.{Here, here}
+use Rattle.packed.proofs.Offsets.{here}
 use Rattle.packed.proofs.Reading.{from, also_all, Left, left-start, left-turn, left-done, left-broken, from_some, from-none, from-err}
 use Rattle.packed.proofs.RowsRead.{row-shown, row-whole}
 

@@ -2,7 +2,7 @@
 use Rattle.std.proofs.Common.{◌≡◌, ℕ, zero, suc, ◌+◌, ◌*◌, ◌/◌, ◌<◌, ◌≤◌, true, List, [], ◌∷◌, map, length, drop, is_some, Some, None, Option, unwrap_or, sym, refl, ap, ◌∙◌, subst, ⊎_elim, arith, length-drop}
 use Rattle.std.specs.Option.{option_map}
 use Rattle.std.specs.List.{slice_get}
-use Rattle.std.proofs.lemmas.List.{drop-drop, drop_all}
+use Rattle.std.proofs.lemmas.List.{drop-drop}
 use Rattle.std.proofs.lemmas.Option.{slice_get_past}
 use Rattle.std.proofs.lemmas.Bool.{cases_lt, false≢true}
 use Rattle.rows.specs.declared.ImportRecord.{ImportRecord}
@@ -11,7 +11,7 @@ use Rattle.packed_layout.specs.Codec.{Codec, bind, alone, via, number, ◌then�
 use Rattle.packed_layout.specs.Layout.{Entry, kind_code, import_kinds, import_kind, target_code, target_of, target, import_record}
 use Rattle.packed_layout.proofs.Codecs.{never, some_inj, bind-some}
 use Rattle.packed.specs.declared.view.RowView.{RowView}
-use Rattle.packed.specs.Views.{shown, records_in, Whole}
+use Rattle.packed.specs.Views.{shown, Whole}
 use Rattle.packed.proofs.Offsets.{Follows, number-follows, joins}
 use Rattle.packed.proofs.RowsRead.{times-length}
 use Rattle.packed_rows.specs.Opened.{numbered}

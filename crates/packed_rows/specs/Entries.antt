@@ -1,6 +1,5 @@
 -- A packed list that is read record by record.
-use Rattle.std.specs.Prelude.{ℕ, zero, suc, ◌-◌, List, [], ◌∷◌, length, Some, None, Ok, Err, Option, Result}
-use Rattle.packed_layout.specs.declared.faults.FaultAt.{FaultAt}
+use Rattle.std.specs.Prelude.{ℕ, zero, suc, ◌-◌, List, [], ◌∷◌, length, Some, None, Ok, Err}
 use Rattle.packed_layout.specs.Layout.{Entry, entry}
 use Rattle.packed.specs.declared.view.RowView.{RowView}
 use Rattle.packed.specs.Views.{shown, read_at}

@@ -1,6 +1,5 @@
 -- A packed list that is read where it lies.
-use Rattle.std.specs.Prelude.{◌≡◌, ℕ, cond, leb, List, [], map, length, Ok, Err, Result, Vec}
-use Rattle.std.specs.declared.alloc.Global.{Global}
+use Rattle.std.specs.Prelude.{ℕ, List, [], map, length, Ok, Err, Result}
 use Rattle.packed_layout.specs.declared.faults.RowFault.{RowFault}
 use Rattle.packed_layout.specs.declared.faults.RowFault.TheVariants.{Record}
 use Rattle.packed_layout.specs.Records.{Read, entries, broken}

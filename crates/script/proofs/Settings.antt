@@ -1,5 +1,5 @@
 -- A loop that sets what the words of a line say.
-use Rattle.std.proofs.Common.{◌≡◌, ℕ, zero, suc, ◌+◌, ◌-◌, ◌<◌, ◌≤◌, Bool, true, false, cond, eqb, List, [], ◌∷◌, length, take, drop, Some, None, Ok, Err, codes, Option, Result, sym, refl, ap, ◌∙◌, subst, arith, length-drop}
+use Rattle.std.proofs.Common.{◌≡◌, ℕ, zero, suc, ◌-◌, ◌<◌, ◌≤◌, Bool, true, false, cond, eqb, List, [], ◌∷◌, length, take, drop, Some, None, Ok, Err, codes, Option, Result, sym, refl, ap, ◌∙◌, arith, length-drop}
 use Rattle.std.specs.Str.{bytes_eq}
 use Rattle.std.proofs.lemmas.Bool.{eqb-false}
 use Rattle.rows.specs.Rows.{Row}
@@ -10,7 +10,7 @@ use Rattle.script.specs.declared.call.LineFault.TheVariants.{UnknownSetting}
 use Rattle.script.specs.declared.setting.Setting.{Setting}
 use Rattle.script.specs.declared.words.ByteKind.{ByteKind}
 use Rattle.script.specs.declared.words.ByteKind.TheVariants.{Blank, Letter}
-use Rattle.script.specs.Words.{kind_of, same_kind, span, trimmed, first_word, next_word, short_of}
+use Rattle.script.specs.Words.{kind_of, same_kind, span, trimmed, next_word, short_of}
 use Rattle.script.specs.Lines.{or_wrong, target_of, setting_of, having, settings}
 
 some-by : (b : Bool) (w x : List ℕ × List ℕ) → cond b None (Some w) ≡ Some x → (b ≡ false) × (w ≡ x)

@@ -1,13 +1,10 @@
 -- What a line of a script means.
-use Rattle.std.specs.Prelude.{ℕ, zero, suc, Bool, true, false, cond, List, [], ◌∷◌, ◌++◌, length, Some, None, Ok, Err, codes, Option, Result}
-use Rattle.std.specs.Option.{option_map}
+use Rattle.std.specs.Prelude.{ℕ, zero, suc, true, cond, List, [], ◌∷◌, ◌++◌, length, Some, None, Ok, Err, codes, Option, Result}
 use Rattle.std.specs.Str.{bytes_eq}
 use Rattle.rows.specs.declared.Sort.TheVariants.{Normal, External}
 use Rattle.rows.specs.declared.ExportsKind.{ExportsKind}
-use Rattle.rows.specs.declared.Flags.{Flags}
 use Rattle.rows.specs.declared.ImportKind.{ImportKind}
 use Rattle.rows.specs.declared.ImportKind.TheVariants.{Import, Require, DynamicImport, HotAccept}
-use Rattle.rows.specs.declared.ImportRecord.{ImportRecord}
 use Rattle.rows.specs.Rows.{Row, no_flags}
 use Rattle.packed_layout.specs.Codec.{bind}
 use Rattle.script.specs.declared.call.LineFault.{LineFault}

@@ -1,4 +1,4 @@
-use Rattle.std.proofs.Common.{◌≡◌, ◌+◌, ◌-◌, sym, ◌∙◌, arith}
+use Rattle.std.proofs.Common.{◌+◌, ◌-◌, sym, ◌∙◌, arith}
 use Rattle.packed.proofs.Imports.{imports-step, imports-fail, imports-end}
 use Rattle.packed.proofs.fields.are_imports.Goals as goal
 

@@ -1,7 +1,7 @@
-use Rattle.std.proofs.Common.{◌≡◌, ℕ, ◌-◌, ◌*◌, ◌/◌, ◌%◌, ◌^◌, ◌<◌, not, eqb, sym, ◌∙◌, mod-lt, arith}
+use Rattle.std.proofs.Common.{◌≡◌, ℕ, ◌*◌, ◌/◌, ◌%◌, ◌<◌, not, eqb, arith}
 use lib.Bits.{bit_and, and_high}
 use Rattle.std.proofs.lemmas.Bool.Decides.{nat_tests}
-use Rattle.packed_layout.specs.Layout.{bit_of, flags_of}
+use Rattle.packed_layout.specs.Layout.{bit_of}
 use Rattle.packed.proofs.fields.flags_of.Goals as goal
 
 -- a bit that is masked out is the bit

@@ -1,4 +1,4 @@
-use Rattle.std.proofs.Common.{◌+◌, ◌^◌, ◌<◌, ◌≤◌, length, Ok, Err, arith}
+use Rattle.std.proofs.Common.{◌+◌, ◌≤◌, length, Ok, Err, arith}
 use Rattle.packed.specs.Views.{shown}
 use Rattle.packed.proofs.Offsets.{at_here, next_fits}
 use Rattle.packed.proofs.read.read_record.Goals as goal

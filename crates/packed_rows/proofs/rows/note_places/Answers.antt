@@ -1,10 +1,8 @@
-use Rattle.std.proofs.Common.{◌≡◌, ℕ, ◌≤◌, length, Err, vec_items, vec_capacity, Result, sym, refl, ap, ◌∙◌, subst, arith}
+use Rattle.std.proofs.Common.{◌≡◌, ◌≤◌, length, Err, vec_items, vec_capacity, sym, refl, ap, ◌∙◌, subst, arith}
 use Rattle.std.proofs.lemmas.Result.{err_from_is_err_and}
-use Rattle.packed_rows.specs.declared.OpenFault.{OpenFault}
-use Rattle.packed_layout.specs.Layout.{read_all}
 use Rattle.packed_rows.specs.Opened.{Noted}
 use Rattle.packed.proofs.Reading.{further, shown-at}
-use Rattle.packed_rows.proofs.Opening.{noting-start, noting-turn, noting-done, noting-broken, noting-short, opened-broken}
+use Rattle.packed_rows.proofs.Opening.{noting-start, noting-turn, noting-done, noting-broken, noting-short}
 use Rattle.packed_rows.proofs.rows.note_places.Goals as goal
 
 pub loop-next-init : goal.loop-next-init

@@ -1,4 +1,4 @@
-use Rattle.std.proofs.Common.{◌≡◌, ℕ, Ok, Result, sym, refl, ap, ◌∙◌}
+use Rattle.std.proofs.Common.{ℕ, Ok, Result, sym, refl, ap, ◌∙◌}
 use Rattle.rows.specs.Rows.{Row}
 use Rattle.script.specs.declared.call.LineFault.{LineFault}
 use Rattle.script.specs.Lines.{and_so}

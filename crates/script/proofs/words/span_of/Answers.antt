@@ -1,4 +1,4 @@
-use Rattle.std.proofs.Common.{◌≡◌, ap, ◌∙◌, arith}
+use Rattle.std.proofs.Common.{ap, ◌∙◌, arith}
 use Rattle.script.specs.declared.words.ByteKind.{ByteKind}
 use Rattle.script.specs.Words.{same_kind}
 use Rattle.script.proofs.Spans.{span-start, span_more, span-stop, span-end}
