@@ -1,4 +1,4 @@
-use Rattle.std.proofs.Common.{◌≤◌, length, take, arith}
+use Rattle.std.proofs.Common.{take, arith}
 use Rattle.std.proofs.lemmas.List.{length-take-le}
 use Rattle.packed_layout.specs.Layout.{import_record}
 use Rattle.packed_layout.proofs.Exact.{length-imports}
