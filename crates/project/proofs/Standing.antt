@@ -1,20 +1,18 @@
 -- Every table stands, and a rescan keeps what it should.
-use Rattle.std.proofs.Common.{◌≡◌, ℕ, suc, ◌+◌, ◌<◌, min, Bool, false, not, ◌&&◌, ◌||◌, T, eqb, ltb, List, [], ◌∷◌, length, Some, None, Ok, Option, sym, refl, ◌∙◌, subst, arith, nltb→le, T_not}
-use lib.Dec.{eqb-suc-zero, not_T}
+use Rattle.std.proofs.Common.{◌≡◌, ℕ, ◌+◌, ◌<◌, min, Bool, false, not, ◌&&◌, ◌||◌, T, ltb, List, [], ◌∷◌, length, Some, None, Ok, Option, sym, refl, ◌∙◌, subst, arith, nltb→le, T_not}
+use lib.Dec.{not_T}
 use Rattle.std.proofs.lemmas.Bool.{lt-ltb, le-ltb}
 use Rattle.rows.specs.Numbers.{any, member, repeats, total}
-use Rattle.rows.specs.Rows.{Row, at, is_normal_sort, is_normal}
+use Rattle.rows.specs.Rows.{Row}
 use Rattle.packed_layout.specs.declared.faults.RowFault.{RowFault}
 use Rattle.packed_layout.specs.Records.{Read, entries, broken}
 use Rattle.packed_layout.specs.Layout.{Entry, read_all}
 use Rattle.project.specs.declared.Room.{Room}
 use Rattle.project.specs.declared.faults.RescanFault.{RescanFault}
 use Rattle.project.specs.declared.faults.RescanFault.TheVariants.{WrongRows, NoTarget, NoRoom}
-use Rattle.project.specs.Rescan.{merged, rows_fault, numbers, dangling, records_of, bytes_of, rows_of, too_much, list_fault, judge_list, judge_rows, judge_read, unasked, rescanned, from_snapshot}
-use Rattle.project.specs.Projects.{Project}
+use Rattle.project.specs.Rescan.{merged, rows_fault, numbers, dangling, records_of, bytes_of, rows_of, too_much, list_fault, judge_list, judge_rows, judge_read, unasked, from_snapshot}
 use Rattle.project.specs.Laws.{Stands, Kept, TablesStand}
-use Rattle.rows.proofs.Tests.{all_of, both-not, indeed, passed, differ, any_at, from-true, from_false, neither}
-use Rattle.rows.proofs.Rows.{normal-row}
+use Rattle.rows.proofs.Tests.{all_of, both-not, passed, differ, any_at, from-true, from_false, neither}
 use Rattle.project.proofs.Limits.{AllLimited, read-limited}
 use Rattle.project.proofs.Placing.{merged-longer, merged_keeps, merged-apart, merged-total, merged-linked, merged-others, merged-limited, merged-new}
 
