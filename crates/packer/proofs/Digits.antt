@@ -1,5 +1,5 @@
 -- The bytes of a number, as the code makes them and as the layout has them.
-use Rattle.std.proofs.Common.{◌≡◌, ℕ, ◌*◌, ◌/◌, ◌%◌, ◌<◌, List, [], ◌∷◌, sym, refl, ap₂, arith}
+use Rattle.std.proofs.Common.{◌≡◌, ℕ, ◌/◌, ◌%◌, ◌<◌, [], ◌∷◌, arith}
 use native.Mathlib.Nat.{div-div-eq-div-mul}
 use Rattle.packed_layout.specs.Codec.{bytes}
 

@@ -1,4 +1,6 @@
 // Writing one numbered row as a packed record.
+#![tactic(auto)]
+
 ghost use Rattle.std.specs.Prelude.{◌≡◌, ◌+◌, ◌≤◌, true, length};
 ghost use Rattle.packed_layout.specs.Layout.{allowed, head, head_of, row};
 ghost use Rattle.packer.specs.Packs.{meant, name?, resolved?, all_resolved?, fits?, packs, ReadBack, Typed, FitIsTested};

@@ -1,6 +1,6 @@
 -- What the reader of packed rows gives is as the layout allows it.
-use Rattle.std.proofs.Common.{◌≡◌, ℕ, zero, suc, ◌+◌, ◌≤◌, Bool, true, false, ◌&&◌, eqb, leb, List, [], ◌∷◌, length, take, Some, None, Ok, Err, Option, Result, sym, refl, ap, ◌∙◌, subst, arith}
-use Rattle.std.proofs.lemmas.Bool.{and_parts, and_from, le-leb, leb-true}
+use Rattle.std.proofs.Common.{◌≡◌, ℕ, zero, suc, ◌+◌, true, ◌&&◌, eqb, leb, List, [], ◌∷◌, length, Some, Ok, Err, Option, Result, sym, refl, ap, ◌∙◌, subst, arith}
+use Rattle.std.proofs.lemmas.Bool.{and_parts, and_from}
 use Rattle.rows.specs.Numbers.{all_of}
 use Rattle.rows.specs.Rows.{Row}
 use Rattle.rows.specs.declared.ImportRecord.{ImportRecord}
@@ -63,7 +63,7 @@ records-give = record {
 
 -- the names of a head
 abbrev Named : Head → Type 0
-Named (number, (sort, (flags, (exports, (mark, (id, stable_id)))))) = (is_name id ≡ true) × (is_name stable_id ≡ true)
+Named (_, (_, (_, (_, (_, (id, stable_id)))))) = (is_name id ≡ true) × (is_name stable_id ≡ true)
 
 head-gives : (s : List ℕ) (p : Head × List ℕ) → head.read s ≡ Some p → Named p.0
 head-gives s p e =
@@ -72,7 +72,7 @@ head-gives s p e =
 
 -- the row that fields make
 limited-of : (h : Head) (xs : List ImportRecord) → Named h → leb (length xs) 1024 ≡ true → allowed (row_of h xs).1 ≡ true → limited (row_of h xs).1 ≡ true
-limited-of (number, (sort, (flags, (exports, (mark, (id, stable_id)))))) xs n few ok = and_from _ _ n.0 (and_from _ _ n.1 (and_from _ _ few ok))
+limited-of (_, (_, (_, (_, (_, (_, _)))))) xs n few ok = and_from _ _ n.0 (and_from _ _ n.1 (and_from _ _ few ok))
 
 -- a numbered row of any fields
 abbrev numbered : Codec (ℕ × Row)

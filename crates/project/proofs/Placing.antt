@@ -1,9 +1,9 @@
 -- One row placed into a table, and then many.
-use Rattle.std.proofs.Common.{◌≡◌, ℕ, zero, suc, ◌+◌, ◌-◌, ◌<◌, ◌≤◌, Bool, true, false, cond, not, ◌&&◌, ◌||◌, T, eqb, ltb, leb, List, [], ◌∷◌, ◌++◌, length, get_or, set, None, sym, refl, ap, ◌∙◌, subst, inl, inr, ⊎_elim, arith, ltb→lt, nltb→le, T_not, length-append, length-set}
+use Rattle.std.proofs.Common.{◌≡◌, ℕ, zero, suc, ◌+◌, ◌-◌, ◌<◌, ◌≤◌, true, false, cond, not, ◌&&◌, T, eqb, ltb, leb, List, [], ◌∷◌, ◌++◌, length, get_or, set, None, sym, refl, ap, ◌∙◌, subst, inl, inr, ⊎_elim, arith, ltb→lt, nltb→le, T_not, length-append, length-set}
 use lib.Dec.{eqb_refl, nleb→lt, not_T}
 use Rattle.std.proofs.lemmas.List.{get_or-set_same, get_or-set_other, get_or_append_left, get_or-append_right, get_or_past, length_push, append-nil, append_assoc}
 use Rattle.std.proofs.lemmas.Bool.{cases_eq, cases_lt, lt-ltb, le-ltb, and_parts}
-use Rattle.rows.specs.Numbers.{any, all_of, member, repeats, total}
+use Rattle.rows.specs.Numbers.{any, member, repeats, total}
 use Rattle.std.specs.Str.{bytes_eq}
 use Rattle.packed_layout.specs.declared.faults.RowFault.TheVariants.{OutOfTurn, NameClash}
 use Rattle.rows.specs.Rows.{Row, at, nowhere, targets, is_any}

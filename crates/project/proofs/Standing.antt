@@ -1,20 +1,18 @@
 -- Every table stands, and a rescan keeps what it should.
-use Rattle.std.proofs.Common.{◌≡◌, ℕ, suc, ◌+◌, ◌<◌, min, Bool, false, not, ◌&&◌, ◌||◌, T, eqb, ltb, List, [], ◌∷◌, length, Some, None, Ok, Option, sym, refl, ◌∙◌, subst, arith, nltb→le, T_not}
-use lib.Dec.{eqb-suc-zero, not_T}
+use Rattle.std.proofs.Common.{◌≡◌, ℕ, ◌<◌, min, Bool, false, not, ◌&&◌, ◌||◌, T, ltb, List, [], ◌∷◌, length, Some, None, Ok, Option, sym, refl, ◌∙◌, subst, arith, nltb→le, T_not}
+use lib.Dec.{not_T}
 use Rattle.std.proofs.lemmas.Bool.{lt-ltb, le-ltb}
-use Rattle.rows.specs.Numbers.{any, member, repeats, total}
-use Rattle.rows.specs.Rows.{Row, at, is_normal_sort, is_normal}
+use Rattle.rows.specs.Numbers.{any, member, repeats}
+use Rattle.rows.specs.Rows.{Row}
 use Rattle.packed_layout.specs.declared.faults.RowFault.{RowFault}
 use Rattle.packed_layout.specs.Records.{Read, entries, broken}
 use Rattle.packed_layout.specs.Layout.{Entry, read_all}
 use Rattle.project.specs.declared.Room.{Room}
 use Rattle.project.specs.declared.faults.RescanFault.{RescanFault}
 use Rattle.project.specs.declared.faults.RescanFault.TheVariants.{WrongRows, NoTarget, NoRoom}
-use Rattle.project.specs.Rescan.{merged, rows_fault, numbers, dangling, records_of, bytes_of, rows_of, too_much, list_fault, judge_list, judge_rows, judge_read, unasked, rescanned, from_snapshot}
-use Rattle.project.specs.Projects.{Project}
+use Rattle.project.specs.Rescan.{merged, rows_fault, numbers, dangling, records_of, bytes_of, rows_of, too_much, list_fault, judge_list, judge_rows, judge_read, unasked, from_snapshot}
 use Rattle.project.specs.Laws.{Stands, Kept, TablesStand}
-use Rattle.rows.proofs.Tests.{all_of, both-not, indeed, passed, differ, any_at, from-true, from_false, neither}
-use Rattle.rows.proofs.Rows.{normal-row}
+use Rattle.rows.proofs.Tests.{all_of, both-not, passed, differ, any_at, from-true, from_false, neither}
 use Rattle.project.proofs.Limits.{AllLimited, read-limited}
 use Rattle.project.proofs.Placing.{merged-longer, merged_keeps, merged-apart, merged-total, merged-linked, merged-others, merged-limited, merged-new}
 
@@ -45,25 +43,28 @@ module _ (room : Room) (table : List Row) (wrong : List ℕ → Bool) (after : L
   read-passes (broken a) each e = let z : ◌≡◌ {A = ℕ} 0 1 = cc in differ z
   read-passes (entries es) each e = (es, refl, rows_pass es (rows_fault table es) refl (each es refl) e)
 
+  -- `_` stands for what is compared with the room: the test is said in `too_much` alone
   stands : (es : List Entry) → Stands room table → Passed room table wrong after es → Stands room after
-  stands es S p = subst (Stands room) p.result (record {
-    project = record {
-      few = (let a = nltb→le (min room.rows 4096) (length (merged table es)) much.0 in omega arith);
-      each = merged-limited table es p.faultless S.project.each p.each;
-      ids = merged-apart (λ r. r.id) (λ t e k. k.id) (λ t e k. k.own_id) table es p.faultless S.project.ids;
-      stable_ids = merged-apart (λ r. r.stable_id) (λ t e k. k.stable_id) (λ t e k. k.own_stable_id) table es p.faultless S.project.stable_ids;
-      linked = merged-linked (length (merged table es)) table es p.faultless (λ r t m. let a = S.project.linked r t m in let b = merged-longer table es p.faultless in omega arith) p.led;
-    };
-    few = nltb→le (min room.rows 4096) (length (merged table es)) much.0;
-    records = (let a = nltb→le room.records (total records_of table + total records_of (rows_of es)) more.0 in let b = merged-total records_of table es in omega arith);
-    bytes = (let a = nltb→le room.bytes (total bytes_of table + total bytes_of (rows_of es)) more.1 in let b = merged-total bytes_of table es in omega arith);
-  })
-    where
-      much : T (not (ltb (min room.rows 4096) (length (merged table es)))) × T (not (ltb room.records (total records_of table + total records_of (rows_of es)) || ltb room.bytes (total bytes_of table + total bytes_of (rows_of es))))
-      much = both-not (ltb (min room.rows 4096) (length (merged table es))) _ p.roomy
-
-      more : T (not (ltb room.records (total records_of table + total records_of (rows_of es)))) × T (not (ltb room.bytes (total bytes_of table + total bytes_of (rows_of es))))
-      more = both-not (ltb room.records (total records_of table + total records_of (rows_of es))) _ much.1
+  stands es S p =
+      let much = both-not (ltb (min room.rows 4096) (length (merged table es))) _ p.roomy in
+      let more = both-not (ltb room.records _) _ much.1 in
+      let few = nltb→le (min room.rows 4096) (length (merged table es)) much.0 in
+      let records = nltb→le room.records _ more.0 in
+      let bytes = nltb→le room.bytes _ more.1 in
+      let placed_records = merged-total records_of table es in
+      let placed_bytes = merged-total bytes_of table es in
+      subst (Stands room) p.result (record {
+        project = record {
+          few = omega arith;
+          each = merged-limited table es p.faultless S.project.each p.each;
+          ids = merged-apart (λ r. r.id) (λ t e k. k.id) (λ t e k. k.own_id) table es p.faultless S.project.ids;
+          stable_ids = merged-apart (λ r. r.stable_id) (λ t e k. k.stable_id) (λ t e k. k.own_stable_id) table es p.faultless S.project.stable_ids;
+          linked = merged-linked (length (merged table es)) table es p.faultless (λ r t m. let a = S.project.linked r t m in let b = merged-longer table es p.faultless in omega arith) p.led;
+        };
+        few = few;
+        records = omega arith;
+        bytes = omega arith;
+      })
 
 -- a row that did not change is not in the list
 not_listed : (table : List Row) (touched ns : List ℕ) → T (not (unasked table touched ns)) → (r : ℕ) → r < length table → T (not (member r touched)) → T (not (member r ns))

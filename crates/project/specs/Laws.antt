@@ -1,5 +1,5 @@
 -- What holds of every table that was made or rescanned.
-use Rattle.std.specs.Prelude.{◌≡◌, ℕ, ◌<◌, ◌≤◌, min, not, T, List, [], length, Ok}
+use Rattle.std.specs.Prelude.{◌≡◌, ℕ, ◌<◌, ◌≤◌, min, not, T, List, length, Ok}
 use Rattle.rows.specs.Numbers.{member, total}
 use Rattle.rows.specs.Rows.{Row, at}
 use Rattle.packed_layout.specs.Records.{entries}

@@ -1,4 +1,6 @@
 // What a project is, what a list of packed rows does to it, and why such a list is refused.
+#![tactic(auto)]
+
 pub mod faults;
 pub mod laws;
 

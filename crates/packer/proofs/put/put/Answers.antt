@@ -7,5 +7,5 @@ returns c =
     record {
       fits = c.requires;
       ends = refl;
-      wrote = copied c.args.place _ c.args.buffer.now _ c.args.part.now c.copy-from-slice.ensures.after (omega arith);
+      wrote = copied c.args.place _ c.args.buffer.now _ c.args.part.now c.copy_from_slice.ensures.after (omega arith);
     }

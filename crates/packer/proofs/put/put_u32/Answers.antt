@@ -4,7 +4,7 @@ use Rattle.packer.proofs.Putting.{put-alike}
 use Rattle.packer.proofs.put.put_u32.Goals as goal
 
 pub put-requires : goal.put-requires
-put-requires c = simp c.to-le-bytes.ensures c.requires
+put-requires c = simp c.to_le_bytes.ensures c.requires
 
 pub returns : goal.returns
-returns c = put-alike (c.to-le-bytes.ensures ∙ digits_4 c.args.n) c.put.ensures
+returns c = put-alike (c.to_le_bytes.ensures ∙ digits_4 c.args.n) c.put.ensures
