@@ -1,7 +1,7 @@
 -- The laws of byte order, and what `cmp` answers by it.
-use Rattle.std.proofs.Common.{◌≡◌, ℕ, ◌<◌, Bool, true, false, cond, List, [], ◌∷◌, Ordering, Less, Equal, Greater, sym, refl, ◌∙◌, arith}
-use Rattle.std.specs.Cmp.Lexicographic.{Lex}
-use Rattle.std.specs.Ordering.{MatchOrdering, is_lt, is_gt}
+use Rattle.std.proofs.Common.{◌≡◌, ℕ, Bool, true, false, cond, List, [], ◌∷◌, Ordering, Less, Equal, Greater, sym, refl, ◌∙◌, arith}
+use Rattle.std.specs.Cmp.Lexicographic.{slice_cmp}
+use Rattle.std.specs.Ordering.{nat_cmp, is_lt, is_gt}
 use Rattle.std.proofs.lemmas.Bool.Decides.{nat_tests}
 use Rattle.std.proofs.lemmas.Bool.{cond-true, cond-false}
 use Rattle.std.proofs.lemmas.Cmp.{same_from_slice_cmp}
@@ -35,22 +35,19 @@ before-total (x ∷ xs) (y ∷ ys) e f =
     let q : before? ys xs ≡ false = grind (arith, nat_tests) in
     let t = before-total xs ys p q in cc
 
-abbrev Ranks : ℕ → ℕ → Ordering → Type 0
-Ranks a b k = MatchOrdering k (a < b) (a ≡ b) (b < a)
+is_lt-before : (xs ys : List ℕ) (o : Ordering) → o ≡ slice_cmp nat_cmp xs ys → is_lt o ≡ before? xs ys
+is_lt-before = same_from_slice_cmp nat_cmp is_lt before? refl (λ _ _. refl) (λ _ _. refl) (λ x y xs ys o h. grind (arith, nat_tests))
 
-lex-lt : (xs ys : List ℕ) (o : Ordering) → Lex Ranks xs ys o → is_lt o ≡ before? xs ys
-lex-lt = same_from_slice_cmp Ranks is_lt before? refl (λ _ _. refl) (λ _ _. refl) (λ x y xs ys o h. grind (arith, nat_tests))
-
-lex-gt : (xs ys : List ℕ) (o : Ordering) → Lex Ranks xs ys o → is_gt o ≡ before? ys xs
-lex-gt = same_from_slice_cmp Ranks is_gt (λ xs ys. before? ys xs) refl (λ _ _. refl) (λ _ _. refl) (λ x y xs ys o h. grind (arith, nat_tests))
+is_gt-before : (xs ys : List ℕ) (o : Ordering) → o ≡ slice_cmp nat_cmp xs ys → is_gt o ≡ before? ys xs
+is_gt-before = same_from_slice_cmp nat_cmp is_gt (λ xs ys. before? ys xs) refl (λ _ _. refl) (λ _ _. refl) (λ x y xs ys o h. grind (arith, nat_tests))
 
 told : (b d : Bool) (o : Ordering) → is_lt o ≡ b → is_gt o ≡ d → o ≡ cond b Less (cond d Greater Equal)
 told b d Less e f = sym (cond-true b _ _ (sym e))
 told b d Equal e f = sym (cond-false b _ _ (sym e) ∙ cond-false d _ _ (sym f))
 told b d Greater e f = sym (cond-false b _ _ (sym e) ∙ cond-true d _ _ (sym f))
 
-pub compared-from-lex : (xs ys : List ℕ) (o : Ordering) → Lex Ranks xs ys o → o ≡ compared xs ys
-compared-from-lex xs ys o h = told (before? xs ys) (before? ys xs) o (lex-lt xs ys o h) (lex-gt xs ys o h)
+pub compared-from-slice_cmp : (xs ys : List ℕ) (o : Ordering) → o ≡ slice_cmp nat_cmp xs ys → o ≡ compared xs ys
+compared-from-slice_cmp xs ys o h = told (before? xs ys) (before? ys xs) o (is_lt-before xs ys o h) (is_gt-before xs ys o h)
 
 -- what each answer says
 pub when-less : (a b : List ℕ) → Less ≡ compared a b → before? a b ≡ true

@@ -1,25 +1,22 @@
 -- What the number of the first row with a name tells.
-use Rattle.std.proofs.Common.{◌≡◌, ℕ, zero, suc, ◌+◌, ◌<◌, ◌≤◌, Bool, true, false, cond, ◌||◌, List, [], ◌∷◌, ◌++◌, length, is_some, Some, None, Decides, Option, sym, refl, ap, ◌∙◌, subst, ⊎_elim, arith, rules}
+use Rattle.std.proofs.Common.{◌≡◌, ℕ, zero, suc, ◌+◌, ◌<◌, ◌≤◌, Bool, true, false, cond, ◌||◌, List, [], ◌∷◌, ◌++◌, length, is_some, Some, None, Option, sym, refl, ap, ◌∙◌, subst, ⊎_elim, arith}
 use Rattle.std.specs.Option.{option_map}
-use Rattle.std.proofs.lemmas.Slice.Eq.{compares_Decides}
+use Rattle.std.proofs.lemmas.Slice.Eq.{bytes_eq-Decides}
 use Rattle.std.proofs.lemmas.List.{length_push, get_or_push, get_or_append_left}
 use Rattle.std.proofs.lemmas.Bool.{cond-true, cond-false, cases_Bool, cases_lt}
 use Rattle.rows.specs.Numbers.{any}
 use Rattle.std.specs.Str.{bytes_eq}
 use Rattle.name_order.specs.Orders.{named, number_of, Apart}
 
-pub same-decides : (xs ys : List ℕ) → Decides (bytes_eq xs ys) (xs ≡ ys)
-same-decides xs ys = compares_Decides bytes_eq (search rules) xs ys
-
 -- another name is passed over
 passed : (name n : List ℕ) (o : Option ℕ) → (n ≡ name → ⊥) → cond (bytes_eq n name) (Some 0) o ≡ o
 passed name n o apart =
-    ⊎_elim (λ (h : bytes_eq n name ≡ true). let z : ⊥ = apart ((same-decides n name).0 h) in absurd z) (λ (h : bytes_eq n name ≡ false). cond-false _ _ _ h) (cases_Bool (bytes_eq n name))
+    ⊎_elim (λ (h : bytes_eq n name ≡ true). let z : ⊥ = apart ((bytes_eq-Decides n name).0 h) in absurd z) (λ (h : bytes_eq n name ≡ false). cond-false _ _ _ h) (cases_Bool (bytes_eq n name))
 
 -- a row that has a name, and none before it has
 pub number-some : (name : List ℕ) (names : List (List ℕ)) (r : ℕ) → r < length names → named names r ≡ name → ((p : ℕ) → p < r → named names p ≡ name → ⊥) → Some r ≡ number_of name names
 number-some name [] r lt e f = let z : ⊥ = omega arith in absurd z
-number-some name (n ∷ ns) zero lt e f = sym (cond-true _ _ _ ((same-decides n name).1 e))
+number-some name (n ∷ ns) zero lt e f = sym (cond-true _ _ _ ((bytes_eq-Decides n name).1 e))
 number-some name (n ∷ ns) (suc r) lt e f =
     ap (option_map suc) (number-some name ns r (omega arith) e (λ p h. f (suc p) (omega arith))) ∙ sym (passed name n _ (f 0 (omega arith)))
 
@@ -50,7 +47,7 @@ pub none_has : (name : List ℕ) (names : List (List ℕ)) → number_of name na
 none_has name [] e p lt same = omega arith
 none_has name (n ∷ ns) e zero lt same =
     let this = (neither (bytes_eq n name) (number_of name ns) e).0 in
-    let that = (same-decides n name).1 same in
+    let that = (bytes_eq-Decides n name).1 same in
     let z : ◌≡◌ {A = ℕ} 0 1 = cc in omega arith
 none_has name (n ∷ ns) e (suc p) lt same = none_has name ns (neither (bytes_eq n name) (number_of name ns) e).1 p (omega arith) same
 

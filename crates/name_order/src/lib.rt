@@ -1,4 +1,6 @@
 // Rows kept in the byte order of a name, so that the row with a name is found by halves.
+#![tactic(auto)]
+
 ghost use Rattle.std.specs.Prelude.{◌≡◌, ℕ, ◌≤◌, List, vec_len, vec_capacity};
 ghost use Rattle.name_order.specs.Orders.{named};
 

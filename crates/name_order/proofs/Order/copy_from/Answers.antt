@@ -10,15 +10,15 @@ copied all read before after i same lt so_far added =
 
 pub loop-row-preserved : goal.loop-row-preserved
 loop-row-preserved c = (
-  copied (vec_items c.args.other.now.rows) c.as-slice-row-items.result.now (vec_items c.loop-row.self.rows) (vec_items c.push-reserved.new.self) c.loop-row.row-index c.as-slice-row-items.ensures.value c.loop-row-test.true c.loop-row.invariant.0 c.push-reserved.ensures.items,
-  omega (arith, c.loop-row.invariant.1, c.push-reserved.ensures.len),
-  c.push-reserved.ensures.capacity ∙ c.loop-row.invariant.2,
+  copied (vec_items c.args.other.now.rows) c.as_slice-row-items.result.now (vec_items c.loop-row.self.rows) (vec_items c.push_reserved.new.self) c.loop-row.row-index c.as_slice-row-items.ensures.value c.loop-row-test.true c.loop-row.invariant.0 c.push_reserved.ensures.items,
+  omega (arith, c.loop-row.invariant.1, c.push_reserved.ensures.len),
+  c.push_reserved.ensures.capacity ∙ c.loop-row.invariant.2,
 )
 
 pub returns : goal.returns
 returns c =
     let all = vec_items c.args.other.now.rows in
     record {
-      rows = c.loop-row.invariant.0 ∙ take_all c.loop-row.row-index all (omega (arith, c.as-slice-row-items.ensures.len, c.args.other.now.rows.ok.0));
+      rows = c.loop-row.invariant.0 ∙ take_all c.loop-row.row-index all (omega (arith, c.as_slice-row-items.ensures.len, c.args.other.now.rows.ok.0));
       sized = c.loop-row.invariant.2 ∙ c.clear.ensures.capacity;
     }

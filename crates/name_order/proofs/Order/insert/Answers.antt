@@ -3,8 +3,8 @@ use Rattle.name_order.proofs.Placing.{order-long}
 use Rattle.name_order.proofs.Order.insert.Goals as goal
 
 -- the next row's number is below 65,536, and so is how many rows there are
-pub returns-then-len-ge-MOST-ROWS : goal.returns-then-len-ge-MOST-ROWS
-returns-then-len-ge-MOST-ROWS g c =
+pub returns-then-len-ge-MOST_ROWS : goal.returns-then-len-ge-MOST_ROWS
+returns-then-len-ge-MOST_ROWS g c =
     let s = c.args.self.now in let xs = vec_items s.rows in let names = g.N.Names.names c.args.names.now in
     record {
       answer = λ o e. let long = order-long names c.args.name.now xs o in let z : ⊥ = omega (arith, s.rows.ok.0, c.ranges.row.fits) in absurd z;
