@@ -15,14 +15,14 @@ loop-i-init c =
 
 pub loop-i-preserved : goal.loop-i-preserved
 loop-i-preserved c = (
-  decodes-more (vec_items c.args.v.now) (vec_items c.loop-i.v) (vec_items c.push-reserved.new.self) c.args.count c.args.imports.now (c.args.count - c.loop-i._i) (c.args.count - (c.loop-i._i + 1)) c.loop-i.rest.now c.in-Some.more.now c.in-Some.import c.loop-i.invariant.0 c.in-Some.ensures (omega arith) c.push-reserved.ensures.items,
-  omega (arith, c.loop-i.invariant.1, c.push-reserved.ensures.len),
-  c.push-reserved.ensures.capacity ∙ c.loop-i.invariant.2,
+  decodes-more (vec_items c.args.v.now) (vec_items c.loop-i.v) (vec_items c.push_reserved.new.self) c.args.count c.args.imports.now (c.args.count - c.loop-i._i) (c.args.count - (c.loop-i._i + 1)) c.loop-i.rest.now c.in-Some.more.now c.in-Some.import c.loop-i.invariant.0 c.in-Some.ensures (omega arith) c.push_reserved.ensures.items,
+  omega (arith, c.loop-i.invariant.1, c.push_reserved.ensures.len),
+  c.push_reserved.ensures.capacity ∙ c.loop-i.invariant.2,
 )
 
-pub returns-in-default : goal.returns-in-default
-returns-in-default c =
-    absurd (false≢true (sym (imports-fail (c.args.count - c.loop-i._i) (c.args.count - (c.loop-i._i + 1)) c.loop-i.rest.now c.in-default.ensures (omega arith)) ∙ c.loop-i.invariant.0.0))
+pub returns-in_default : goal.returns-in_default
+returns-in_default c =
+    absurd (false≢true (sym (imports-fail (c.args.count - c.loop-i._i) (c.args.count - (c.loop-i._i + 1)) c.loop-i.rest.now c.in_default.ensures (omega arith)) ∙ c.loop-i.invariant.0.0))
 
 pub returns : goal.returns
 returns c =

@@ -5,9 +5,9 @@ use Rattle.row_store.proofs.store.fill.fill.Goals as goal
 
 pub loop-item-preserved : goal.loop-item-preserved
 loop-item-preserved g c = (
-  filled_more (vec_items c.loop-item.v) (vec_items c.push-reserved.new.self) (vec_items c.args.v.now) c.args.items.now c.loop-item.item-index c.item-item.result c.loop-item.invariant.0 c.push-reserved.ensures.items (omega arith) c.item-item.is,
-  omega (arith, c.loop-item.invariant.1, c.push-reserved.ensures.len),
-  c.push-reserved.ensures.capacity ∙ c.loop-item.invariant.2,
+  filled_more (vec_items c.loop-item.v) (vec_items c.push_reserved.new.self) (vec_items c.args.v.now) c.args.items.now c.loop-item.item-index c.item-item.result c.loop-item.invariant.0 c.push_reserved.ensures.items (omega arith) c.item-item.is,
+  omega (arith, c.loop-item.invariant.1, c.push_reserved.ensures.len),
+  c.push_reserved.ensures.capacity ∙ c.loop-item.invariant.2,
 )
 
 pub returns : goal.returns

@@ -22,10 +22,10 @@ put-requires g c =
     record {
       whole = c.change.ensures.whole;
       row_fits = omega (arith, lt, m.few, c.loop-row.invariant.1.0, c.requires.rows_fit, c.clear.ensures.capacity);
-      records-fit = subst (λ (rs : List Row). vec_len spare.records + total records_of (coming (slice_get rs n) item) ≤ vec_capacity spare.records) (sym same) (omega (arith, fit, c.requires.records-fit, c.loop-row.invariant.1.1, c.clear-2.ensures.capacity));
+      records_fit = subst (λ (rs : List Row). vec_len spare.records + total records_of (coming (slice_get rs n) item) ≤ vec_capacity spare.records) (sym same) (omega (arith, fit, c.requires.records_fit, c.loop-row.invariant.1.1, c.clear-2.ensures.capacity));
       bytes_fit = omega (arith, names, c.requires.bytes_fit, c.loop-row.invariant.2, c.args.bytes.now.ok.0, c.loop-row.bytes.ok.0);
       sound = all_more (length bytes) (length bytes') (length (vec_items side.records)) (length (vec_items side.records)) (vec_items side.heads) (grown-long bytes bytes' m.grown) (omega arith) c.requires.sound;
-      spare-sound = m.sound;
+      spare_sound = m.sound;
     }
 
 pub loop-row-init : goal.loop-row-init

@@ -14,8 +14,8 @@ returns-then-size-left g c =
     let records = total-more gs n item lt c.change.ensures.shown given_records in
     let bytes = total-more gs n item lt c.change.ensures.shown given_bytes in
     elim c.then-size-left.either [
-      | inl h ↦ sym (and_left _ _ (lt-leb (total given_records gs) c.args.free.records (omega (arith, records, c.size-of-size.ensures.records, c.loop-row.invariant.0))))
-      | inr h ↦ sym (and_right _ _ (lt-leb (total given_bytes gs) c.args.free.bytes (omega (arith, bytes, h.1, c.size-of-size.ensures.bytes, c.loop-row.invariant.1))))
+      | inl h ↦ sym (and_left _ _ (lt-leb (total given_records gs) c.args.free.records (omega (arith, records, c.size_of-size.ensures.records, c.loop-row.invariant.0))))
+      | inr h ↦ sym (and_right _ _ (lt-leb (total given_bytes gs) c.args.free.bytes (omega (arith, bytes, h.1, c.size_of-size.ensures.bytes, c.loop-row.invariant.1))))
     ]
 
 pub loop-row-preserved : goal.loop-row-preserved
@@ -24,8 +24,8 @@ loop-row-preserved g c =
     let lt : n < length gs = omega (arith, c.requires, c.loop-row-test.true) in
     let records = total-more gs n item lt c.change.ensures.shown given_records in
     let bytes = total-more gs n item lt c.change.ensures.shown given_bytes in (
-      omega (arith, records, c.size-of-size.ensures.records, c.loop-row.invariant.0, c.if-size-left.false),
-      omega (arith, bytes, c.size-of-size.ensures.bytes, c.loop-row.invariant.1, c.if-size-left-2.false),
+      omega (arith, records, c.size_of-size.ensures.records, c.loop-row.invariant.0, c.if-size-left.false),
+      omega (arith, bytes, c.size_of-size.ensures.bytes, c.loop-row.invariant.1, c.if-size-left-2.false),
     )
 
 pub returns : goal.returns
