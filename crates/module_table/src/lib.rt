@@ -1,4 +1,6 @@
 // The live table of a planner.
+#![tactic(auto)]
+
 mod asked;
 mod judge;
 mod links;

@@ -1,4 +1,6 @@
 // The memory of a live table: rows in vectors that are reserved once, and the rows as they were before the last rewrite.
+#![tactic(auto)]
+
 pub mod changes;
 pub mod graph;
 pub mod store;
