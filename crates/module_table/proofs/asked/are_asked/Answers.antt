@@ -4,9 +4,9 @@ use Rattle.rows.specs.Numbers.{member}
 use Rattle.module_table.proofs.Asking.{not-placed, not-marked, some-touched, none-touched}
 use Rattle.module_table.proofs.asked.are_asked.Goals as goal
 
-pub returns-then-not-are-placed : goal.returns-then-not-are-placed
-returns-then-not-are-placed c = record {
-  answer = λ table es size placed fine. sym (ap not (not-placed c.args.held c.args.places.now c.args.touched.now table es size placed fine (not-false _ (sym c.if-not-are-placed.ensures))));
+pub returns-then-not-are_placed : goal.returns-then-not-are_placed
+returns-then-not-are_placed c = record {
+  answer = λ table es size placed fine. sym (ap not (not-placed c.args.held c.args.places.now c.args.touched.now table es size placed fine (not-false _ (sym c.if-not-are_placed.ensures))));
   capacity = refl;
 }
 
@@ -26,29 +26,29 @@ module _ (held : ℕ) (places : List (Option ℕ)) (touched : List ℕ) (marks s
   one-untouched : ((k : ℕ) × (k < length slice) × (is_some (get_or places k None) ≡ true) × (get_or slice k false ≡ false)) → (k : ℕ) × (k < held) × (is_some (get_or places k None) ≡ true) × (member k touched ≡ false)
   one-untouched (k, l, has, is) = let h : k < held = omega (arith, size) in (k, h, has, by-mark k h false is)
 
-pub returns-then-not-is-empty : goal.returns-then-not-is-empty
-returns-then-not-is-empty c =
-    let m = c.mark-touched.ensures in
-    let each = each-touched c.args.held c.args.places.now c.args.touched.now (vec_items c.mark-touched.new.marks) c.as-slice.result.now c.as-slice.ensures.value m.sized m.marked (c.if-are-marked.ensures.yes refl) in
+pub returns-then-not-is_empty : goal.returns-then-not-is_empty
+returns-then-not-is_empty c =
+    let m = c.mark_touched.ensures in
+    let each = each-touched c.args.held c.args.places.now c.args.touched.now (vec_items c.mark_touched.new.marks) c.as_slice.result.now c.as_slice.ensures.value m.sized m.marked (c.if-are_marked.ensures.yes refl) in
     record {
-      answer = λ table es size placed fine. ap not (c.if-not-is-empty.true ∙ sym (some-touched c.args.held c.args.places.now c.args.touched.now table es size placed fine (not-true _ (sym c.if-not-are-placed.ensures)) each (sym c.if-not-is-empty.ensures)));
+      answer = λ table es size placed fine. ap not (c.if-not-is_empty.true ∙ sym (some-touched c.args.held c.args.places.now c.args.touched.now table es size placed fine (not-true _ (sym c.if-not-are_placed.ensures)) each (sym c.if-not-is_empty.ensures)));
       capacity = m.capacity;
     }
 
-pub returns-else-not-is-empty : goal.returns-else-not-is-empty
-returns-else-not-is-empty c =
-    let m = c.mark-touched.ensures in
-    let each = each-touched c.args.held c.args.places.now c.args.touched.now (vec_items c.mark-touched.new.marks) c.as-slice.result.now c.as-slice.ensures.value m.sized m.marked (c.if-are-marked.ensures.yes refl) in
+pub returns-else-not-is_empty : goal.returns-else-not-is_empty
+returns-else-not-is_empty c =
+    let m = c.mark_touched.ensures in
+    let each = each-touched c.args.held c.args.places.now c.args.touched.now (vec_items c.mark_touched.new.marks) c.as_slice.result.now c.as_slice.ensures.value m.sized m.marked (c.if-are_marked.ensures.yes refl) in
     record {
-      answer = λ table es size placed fine. none-touched c.args.held c.args.places.now c.args.touched.now table es size placed fine (not-true _ (sym c.if-not-are-placed.ensures)) each (sym c.if-not-is-empty.ensures);
+      answer = λ table es size placed fine. none-touched c.args.held c.args.places.now c.args.touched.now table es size placed fine (not-true _ (sym c.if-not-are_placed.ensures)) each (sym c.if-not-is_empty.ensures);
       capacity = m.capacity;
     }
 
-pub returns-else-are-marked : goal.returns-else-are-marked
-returns-else-are-marked c =
-    let m = c.mark-touched.ensures in
-    let k = one-untouched c.args.held c.args.places.now c.args.touched.now (vec_items c.mark-touched.new.marks) c.as-slice.result.now c.as-slice.ensures.value m.sized m.marked (c.if-are-marked.ensures.no refl) in
+pub returns-else-are_marked : goal.returns-else-are_marked
+returns-else-are_marked c =
+    let m = c.mark_touched.ensures in
+    let k = one-untouched c.args.held c.args.places.now c.args.touched.now (vec_items c.mark_touched.new.marks) c.as_slice.result.now c.as_slice.ensures.value m.sized m.marked (c.if-are_marked.ensures.no refl) in
     record {
-      answer = λ table es size placed fine. c.if-are-marked.false ∙ sym (ap not (not-marked c.args.held c.args.places.now c.args.touched.now table es size placed fine k.0 k.1 k.2 k.3));
+      answer = λ table es size placed fine. c.if-are_marked.false ∙ sym (ap not (not-marked c.args.held c.args.places.now c.args.touched.now table es size placed fine k.0 k.1 k.2 k.3));
       capacity = m.capacity;
     }

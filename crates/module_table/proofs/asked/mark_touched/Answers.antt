@@ -8,8 +8,8 @@ use Rattle.module_table.proofs.asked.mark_touched.Goals.{then-row-count, else-ro
 
 pub loop-row-init : goal.loop-row-init
 loop-row-init c = (
-  ap length c.clear-marks.ensures.items ∙ length-replicate c.args.count false,
-  λ r h. ap (λ ms. get_or ms r false) c.clear-marks.ensures.items ∙ get_or-replicate c.args.count r false false h,
+  ap length c.clear_marks.ensures.items ∙ length-replicate c.args.count false,
+  λ r h. ap (λ ms. get_or ms r false) c.clear_marks.ensures.items ∙ get_or-replicate c.args.count r false false h,
   refl,
 )
 
@@ -37,5 +37,5 @@ pub returns : goal.returns
 returns c = record {
   sized = c.loop-row.invariant.0;
   marked = λ r h. c.loop-row.invariant.1 r h ∙ ap (member r) (take_all c.loop-row.row-index c.args.touched.now c.loop-row-test.false);
-  capacity = c.loop-row.invariant.2 ∙ c.clear-marks.ensures.capacity;
+  capacity = c.loop-row.invariant.2 ∙ c.clear_marks.ensures.capacity;
 }

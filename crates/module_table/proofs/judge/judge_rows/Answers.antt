@@ -21,24 +21,24 @@ loop-offset-init g c =
     let start = judging-start table s es (vec_items c.args.scratch.now.places) (listed c.args.scratch.now.ids) (listed c.args.scratch.now.stable_ids) c.requires.begun c.requires.ordered in
     (([], judging-at (coming c.over-list.result) start all), refl, refl)
 
-pub judge-row-requires : goal.judge-row-requires
-judge-row-requires g c =
+pub judge_row-requires : goal.judge_row-requires
+judge_row-requires g c =
     let j = c.loop-offset.invariant.0.1 in
     record { room = omega (arith, c.loop-offset.invariant.1, c.requires.room); sized = c.loop-offset.scratch.places.ok.0 ∙ judging-long j; ordered = judging-orders j }
 
-pub returns-in-err-again : goal.returns-in-err-again
-returns-in-err-again g c =
+pub returns-in_err-again : goal.returns-in_err-again
+returns-in_err-again g c =
     let e = entry_in (c.in-Some.offset, c.in-Some.row) in
-    let rest = coming c.read-next.new.self in
+    let rest = coming c.read_next.new.self in
     let todo = comes (coming c.loop-offset.list) rest e c.in-Some.ensures.value c.in-Some.ensures.after in
     let j = judging-at (e ∷ rest) c.loop-offset.invariant.0.1 todo in
-    let p = err_from_is_err_and c.from-residual.result c.from-residual.ensures.1 in
+    let p = err_from_is_err_and c.from_residual.result c.from_residual.ensures.1 in
     record {
-      answer = p.1 ∙ ap Err p.2 ∙ judging-fault j c.in-err-again.field-0.0 c.in-err-again.ensures.answer;
+      answer = p.1 ∙ ap Err p.2 ∙ judging-fault j c.in_err-again.field-0.0 c.in_err-again.ensures.answer;
       places = unmade _ _ p.0 p.1;
       orders = unmade _ _ p.0 p.1;
-      capacity = c.judge-row.ensures.capacity ∙ c.loop-offset.invariant.1;
-      marks = c.judge-row.ensures.marks ∙ c.loop-offset.invariant.2;
+      capacity = c.judge_row.ensures.capacity ∙ c.loop-offset.invariant.1;
+      marks = c.judge_row.ensures.marks ∙ c.loop-offset.invariant.2;
     }
 
 pub loop-offset-preserved : goal.loop-offset-preserved
@@ -46,10 +46,10 @@ loop-offset-preserved g c =
     let s = c.args.bytes.now in
     let done = c.loop-offset.invariant.0.0 in
     let e = entry_in (c.in-Some.offset, c.in-Some.row) in
-    let rest = coming c.read-next.new.self in
+    let rest = coming c.read_next.new.self in
     let todo = comes (coming c.loop-offset.list) rest e c.in-Some.ensures.value c.in-Some.ensures.after in
     let j = judging-at (e ∷ rest) c.loop-offset.invariant.0.1 todo in
     let seen = stands-glanced s e (stands_at s (length done) e (judging-next j)) in
-    let new = c.judge-row.new.scratch in
-    let turned = judging-turn j (vec_items new.places) (listed new.ids) (listed new.stable_ids) c.in-ok-again.again seen c.in-ok-again.ensures.answer c.in-ok-again.ensures.places c.in-ok-again.ensures.orders in
-    ((done ++ e ∷ [], turned), c.judge-row.ensures.capacity ∙ c.loop-offset.invariant.1, c.judge-row.ensures.marks ∙ c.loop-offset.invariant.2)
+    let new = c.judge_row.new.scratch in
+    let turned = judging-turn j (vec_items new.places) (listed new.ids) (listed new.stable_ids) c.in_ok-again.again seen c.in_ok-again.ensures.answer c.in_ok-again.ensures.places c.in_ok-again.ensures.orders in
+    ((done ++ e ∷ [], turned), c.judge_row.ensures.capacity ∙ c.loop-offset.invariant.1, c.judge_row.ensures.marks ∙ c.loop-offset.invariant.2)

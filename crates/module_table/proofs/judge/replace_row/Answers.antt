@@ -17,8 +17,8 @@ returns g c =
     let e = entry_in (c.args.offset, c.args.row.now) in
     let long : e.number < length places = omega (arith, c.args.scratch.now.places.ok.0, c.requires.held) in
     let held : e.number < length (drafted table s places) = omega (arith, c.requires.held, c.requires.sized) in
-    let kept : keeps (at (drafted table s places) e.number) e.row ≡ true = sym (subst (λ (ps : List (Option ℕ)). true ≡ keeps (at (drafted table s ps) e.number) e.row) c.as-slice.ensures.value c.if-not-is-kept-by.ensures) in
-    let twice : c.is-some-twice.result ≡ is_some (get_or places e.number None) = c.is-some-twice.ensures ∙ ap is_some (c.index.ensures ∙ get_or_default places c.from-place.result _ None (omega arith)) ∙ ap (λ k. is_some (get_or places k None)) c.from-place.ensures in
+    let kept : keeps (at (drafted table s places) e.number) e.row ≡ true = sym (subst (λ (ps : List (Option ℕ)). true ≡ keeps (at (drafted table s ps) e.number) e.row) c.as_slice.ensures.value c.if-not-is_kept_by.ensures) in
+    let twice : c.is_some-twice.result ≡ is_some (get_or places e.number None) = c.is_some-twice.ensures ∙ ap is_some (c.index.ensures ∙ get_or_default places c.from-place.result _ None (omega arith)) ∙ ap (λ k. is_some (get_or places k None)) c.from-place.ensures in
     record {
       answer = ap {B = Result Bool RowFault} Ok twice ∙ kept-judged (drafted table s places) e held kept _;
       places = ap (λ k. set places k (Some e.offset)) c.from-place.ensures ∙ placing-held places e long;

@@ -19,11 +19,11 @@ at_place : (s : List ℕ) (places : List (Option ℕ)) (place row : ℕ) (d p : 
 at_place s places place row d p e h is =
     ap (glance_row s) (sym is) ∙ sym (get_d_map (glance_row s) places place d None h) ∙ ap (λ k. get_or (glanced_by s places) k None) e
 
-pub returns-in-err-offset : goal.returns-in-err-offset
-returns-in-err-offset g c =
+pub returns-in_err-offset : goal.returns-in_err-offset
+returns-in_err-offset g c =
     let o = c.args.self.now in
-    ap (option_map (λ (v : RowView). (shown v).1)) c.from-residual.ensures
-    ∙ at_place o.bytes.now o.places.now c.from-place.result c.args.row _ None c.from-place.ensures (omega arith) c.in-err-offset.was
+    ap (option_map (λ (v : RowView). (shown v).1)) c.from_residual.ensures
+    ∙ at_place o.bytes.now o.places.now c.from-place.result c.args.row _ None c.from-place.ensures (omega arith) c.in_err-offset.was
 
 -- the row that an outline shows
 glanced : (r : Option RowView) (o : Option (Head × (ℕ × List ℕ))) → option_map outlined r ≡ o → option_map (λ (v : RowView). (shown v).1) r ≡ option_map (λ (h : Head × (ℕ × List ℕ)). (row_of h.0 (records_in h.1.0 h.1.1)).1) o
@@ -33,5 +33,5 @@ glanced (Some v) o e = ap (option_map (λ (h : Head × (ℕ × List ℕ)). (row_
 pub returns : goal.returns
 returns g c =
     let o = c.args.self.now in
-    glanced c.glance-at.result (outline_at o.bytes.now c.in-ok-offset.offset) c.glance-at.ensures
-    ∙ at_place o.bytes.now o.places.now c.from-place.result c.args.row _ (Some c.in-ok-offset.offset) c.from-place.ensures (omega arith) c.in-ok-offset.was
+    glanced c.glance_at.result (outline_at o.bytes.now c.in_ok-offset.offset) c.glance_at.ensures
+    ∙ at_place o.bytes.now o.places.now c.from-place.result c.args.row _ (Some c.in_ok-offset.offset) c.from-place.ensures (omega arith) c.in_ok-offset.was

@@ -10,12 +10,12 @@ returns-in-Some g c =
     let o = c.args.self.now in
     told-given (λ (q : Row). q.stable_id) (g.G.Graph.rows o.table.now) (glanced_by o.bytes.now o.places.now) c.args.row (shown c.in-Some.view).1 _ c.in-Some.ensures refl
 
-pub returns-in-Some-stable-id : goal.returns-in-Some-stable-id
-returns-in-Some-stable-id g c =
+pub returns-in-Some-stable_id : goal.returns-in-Some-stable_id
+returns-in-Some-stable_id g c =
     let o = c.args.self.now in let rows = g.G.Graph.rows o.table.now in
-    told-table (λ (q : Row). q.stable_id) rows (glanced_by o.bytes.now o.places.now) c.args.row _ c.in-None.ensures (nth-some (λ (q : Row). q.stable_id) rows c.args.row _ c.in-Some-stable-id.ensures)
+    told-table (λ (q : Row). q.stable_id) rows (glanced_by o.bytes.now o.places.now) c.args.row _ c.in-None.ensures (nth-some (λ (q : Row). q.stable_id) rows c.args.row _ c.in-Some-stable_id.ensures)
 
-pub returns-in-None-stable-id : goal.returns-in-None-stable-id
-returns-in-None-stable-id g c =
+pub returns-in-None-stable_id : goal.returns-in-None-stable_id
+returns-in-None-stable_id g c =
     let o = c.args.self.now in let rows = g.G.Graph.rows o.table.now in
-    told-table (λ (q : Row). q.stable_id) rows (glanced_by o.bytes.now o.places.now) c.args.row _ c.in-None.ensures (nth-none (λ (q : Row). q.stable_id) rows c.args.row c.in-None-stable-id.ensures)
+    told-table (λ (q : Row). q.stable_id) rows (glanced_by o.bytes.now o.places.now) c.args.row _ c.in-None.ensures (nth-none (λ (q : Row). q.stable_id) rows c.args.row c.in-None-stable_id.ensures)

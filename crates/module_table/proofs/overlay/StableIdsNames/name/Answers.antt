@@ -7,4 +7,4 @@ use Rattle.module_table.proofs.overlay.StableIdsNames.name.Goals as goal
 pub returns : goal.returns
 returns g c =
     let o = c.args.self.now.0 in
-    c.stable-id.ensures ∙ sym (named-map (λ (q : Row). q.stable_id) (drafted (g.G.Graph.rows o.table.now) o.bytes.now o.places.now) c.args.row refl)
+    c.stable_id.ensures ∙ sym (named-map (λ (q : Row). q.stable_id) (drafted (g.G.Graph.rows o.table.now) o.bytes.now o.places.now) c.args.row refl)
