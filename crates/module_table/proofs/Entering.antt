@@ -1,20 +1,19 @@
 -- One row of a list: what is answered for it, and what becomes of the orders.
-use Rattle.std.proofs.Common.{◌≡◌, ℕ, zero, suc, ◌<◌, ◌≤◌, Bool, true, false, cond, not, ◌&&◌, ◌||◌, ltb, List, [], ◌∷◌, ◌++◌, map, length, get_or, set, is_some, is_ok, Some, None, Ok, Err, Option, Result, sym, refl, ap, ◌∙◌, subst, arith}
+use Rattle.std.proofs.Common.{◌≡◌, ℕ, zero, suc, ◌<◌, ◌≤◌, Bool, true, false, cond, not, ◌||◌, ltb, List, [], ◌∷◌, ◌++◌, map, length, set, is_some, is_ok, Some, Ok, Err, Option, Result, sym, refl, ap, ◌∙◌, subst, arith}
 use Rattle.std.specs.Str.{bytes_eq}
 use Rattle.std.proofs.lemmas.Slice.Eq.{bytes_eq-Decides}
 use Rattle.std.proofs.lemmas.List.{map_push}
 use Rattle.std.proofs.lemmas.Bool.{cond-true, cond-false, lt-ltb, le-ltb, and_parts}
 use Rattle.rows.specs.Numbers.{any}
 use Rattle.rows.specs.Rows.{Row, at}
-use Rattle.packed_layout.specs.declared.faults.RowFault.{RowFault}
-use Rattle.packed_layout.specs.declared.faults.RowFault.TheVariants.{OutOfTurn, NameClash}
+use Rattle.packed_layout.specs.declared.faults.RowFault.TheVariants.{NameClash}
 use Rattle.packed_layout.specs.Layout.{Entry}
 use Rattle.name_order.specs.declared.Taken.{Taken}
 use Rattle.name_order.specs.Listed.{taken as taken-answer}
 use Rattle.name_order.specs.Orders.{number_of, ordered, IsOrder}
 use Rattle.name_order.proofs.Numbering.{number-tells, none_is}
 use Rattle.name_order.proofs.Placing.{order-push}
-use Rattle.project.specs.Rescan.{placed, keeps, same_sort, taken, clashes}
+use Rattle.project.specs.Rescan.{placed, keeps, taken, clashes}
 use Rattle.module_table.specs.Drafts.{placing}
 use Rattle.module_table.specs.Judged.{ids_of, stable_ids_of, InOrder, row_judged}
 

@@ -1,10 +1,10 @@
 -- A table with rows laid over it, row by row.
-use Rattle.std.proofs.Common.{◌≡◌, ℕ, zero, suc, ◌+◌, ◌<◌, ◌≤◌, Bool, true, false, cond, List, [], ◌∷◌, ◌++◌, map, length, get_or, set, Some, None, Option, unwrap_or, sym, refl, ap, ◌∙◌, subst, arith}
+use Rattle.std.proofs.Common.{◌≡◌, ℕ, zero, suc, ◌<◌, ◌≤◌, List, [], ◌∷◌, map, length, get_or, Some, None, Option, unwrap_or, sym, refl, ap, ◌∙◌, arith}
 use Rattle.std.specs.Option.{option_map}
 use Rattle.std.specs.List.{slice_get}
 use Rattle.rows.specs.declared.Facts.{Facts}
 use Rattle.rows.specs.Rows.{Row, at, nowhere, facts_of}
-use Rattle.module_table.specs.Drafts.{blank, overlay}
+use Rattle.module_table.specs.Drafts.{overlay}
 
 -- the row of a number is the one that is given, or else the table's
 pub at-overlay : (table : List Row) (gs : List (Option Row)) (r : ℕ) → at (overlay table gs) r ≡ unwrap_or (get_or gs r None) (at table r)

@@ -1,16 +1,15 @@
 -- Each entry of a list stands at its offset, and a glance there shows its row.
-use Rattle.std.proofs.Common.{◌≡◌, ℕ, List, drop, Some, None, Ok, Option, sym, refl, ap, ◌∙◌, subst, Bor}
+use Rattle.std.proofs.Common.{◌≡◌, ℕ, List, drop, Some, None, Option, sym, refl, ap, ◌∙◌, Bor}
 use Rattle.std.specs.Option.{option_map}
 use Rattle.std.specs.List.{slice_get}
 use Rattle.rows.specs.Rows.{Row}
 use Rattle.packed_layout.specs.Layout.{Head, Entry, row_of, read_all}
-use Rattle.packed.specs.declared.view.RowHead.{RowHead}
 use Rattle.packed.specs.declared.view.RowView.{RowView}
 use Rattle.packed.specs.Views.{outlined, outline_at, records_in, shown, read_at}
 use Rattle.packed.proofs.Offsets.{here}
 use Rattle.packed_rows.specs.Lists.{entries_of}
 use Rattle.packed_rows.proofs.Opening.{Stands, entry-stands, glance_at}
-use Rattle.module_table.specs.Drafts.{read_row, place_row, glance_row}
+use Rattle.module_table.specs.Drafts.{read_row, glance_row}
 
 -- some reference to bytes
 abbrev lent : List ℕ → Bor (List ℕ)

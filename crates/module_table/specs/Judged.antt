@@ -1,5 +1,5 @@
 -- What is answered for the rows of a list, and which orders go with a table.
-use Rattle.std.specs.Prelude.{◌≡◌, ℕ, Bool, cond, List, [], map, length, Some, None, Ok, Err, Option, Result, nat_lt}
+use Rattle.std.specs.Prelude.{◌≡◌, ℕ, Bool, cond, List, map, length, Some, None, Ok, Err, Option, Result, nat_lt}
 use Rattle.rows.specs.Numbers.{repeats}
 use Rattle.rows.specs.Rows.{Row}
 use Rattle.packed_layout.specs.declared.faults.RowFault.{RowFault}

@@ -1,6 +1,6 @@
-use Rattle.std.proofs.Common.{◌≡◌, ℕ, List, [], ◌∷◌, ◌++◌, length, IfOk, Err, vec_items, Result, sym, refl, ap, ◌∙◌, subst, arith}
+use Rattle.std.proofs.Common.{◌≡◌, [], ◌∷◌, ◌++◌, length, IfOk, Err, vec_items, Result, sym, refl, ap, ◌∙◌, subst, arith}
 use Rattle.std.proofs.lemmas.Result.{err_from_is_err_and}
-use Rattle.packed_layout.specs.Layout.{Entry, read_all}
+use Rattle.packed_layout.specs.Layout.{read_all}
 use Rattle.packed_rows.specs.Lists.{entries_of}
 use Rattle.packed_rows.specs.Entries.{entry_in, coming}
 use Rattle.packed_rows.proofs.Coming.{coming-all}

@@ -1,4 +1,4 @@
-use Rattle.std.proofs.Common.{◌≡◌, ◌≤◌, List, length, vec_items, vec_capacity}
+use Rattle.std.proofs.Common.{◌≡◌, List, length, vec_items, vec_capacity}
 use Rattle.packed_layout.specs.Layout.{Entry, read_all}
 use Rattle.packed_rows.specs.Lists.{entries_of}
 use Rattle.packed_rows.specs.Entries.{coming}

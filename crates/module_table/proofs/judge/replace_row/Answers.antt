@@ -3,9 +3,7 @@ use Rattle.packed_layout.specs.declared.faults.RowFault.{RowFault}
 use Rattle.rows.specs.Rows.{at}
 use Rattle.project.specs.Rescan.{keeps}
 use Rattle.packed_rows.specs.Entries.{entry_in}
-use Rattle.name_order.specs.Listed.{listed}
 use Rattle.module_table.specs.Drafts.{drafted}
-use Rattle.module_table.specs.Judged.{row_judged}
 use Rattle.std.proofs.lemmas.List.{get_or_default}
 use Rattle.module_table.proofs.Entering.{kept-judged, kept-orders, placing-held}
 use Rattle.module_table.proofs.judge.replace_row.Goals as goal

@@ -1,6 +1,5 @@
-use Rattle.std.proofs.Common.{◌≡◌, ℕ, ◌<◌, ◌≤◌, List, map, length, get_or, Some, None, Option, sym, refl, ap, ◌∙◌, arith}
+use Rattle.std.proofs.Common.{◌≡◌, ℕ, ◌<◌, ◌≤◌, List, length, get_or, Some, None, Option, sym, ap, ◌∙◌, arith}
 use Rattle.std.specs.Option.{option_map}
-use Rattle.rows.specs.Rows.{Row}
 use Rattle.packed_layout.specs.Layout.{Head, row_of}
 use Rattle.packed.specs.declared.view.RowView.{RowView}
 use Rattle.packed.specs.Views.{shown, outlined, outline_at, records_in}
