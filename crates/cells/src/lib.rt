@@ -28,7 +28,8 @@ pub struct Cells {
 
 // Where the cell of a pair stands.
 fn place(tablet: u8, row: u16) -> usize
-    requires { (tablet < 16) × (row < 4096) }
+    requires tablets { tablet < 16 }
+    requires rows { row < 4096 }
     ensures { result ≡ rank tablet row }
 {
     tablet as usize * ROWS as usize + row as usize
