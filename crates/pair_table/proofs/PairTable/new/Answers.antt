@@ -1,6 +1,6 @@
 use Rattle.std.proofs.Common.{ap, ◌∙◌}
 use Rattle.pair_table.specs.Pairs.{in_pairs}
-use Rattle.pair_table.specs.Paired.{none-in-pairs}
+use Rattle.pair_table.proofs.Paired.{none-in-pairs}
 use Rattle.pair_table.proofs.PairTable.new.Goals as goal
 
 pub returns : goal.returns

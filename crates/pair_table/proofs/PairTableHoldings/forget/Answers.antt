@@ -1,8 +1,9 @@
 use Rattle.std.proofs.Common.{◌≤◌, length, sym, refl, ap, ◌∙◌, subst, arith}
 use Rattle.std.proofs.lemmas.List.Sums.{length-filter, count_by-le-length}
 use Rattle.pair_table.specs.Pairs.{in_pairs, elsewhere}
-use Rattle.pair_table.specs.Order.{Up, up_from, up_kept, inside-from, ordered-from}
-use Rattle.pair_table.specs.Paired.{keeps}
+use Rattle.pair_table.specs.Laws.{Up, up_from}
+use Rattle.pair_table.proofs.Order.{up_kept, inside-from, ordered-from}
+use Rattle.pair_table.proofs.Paired.{keeps}
 use Rattle.pair_table.proofs.PairTableHoldings.forget.Goals as goal
 
 pub invariant-of-self : goal.invariant-of-self

@@ -5,8 +5,9 @@ use Rattle.holdings.specs.Answers.{answered}
 use Rattle.holdings.proofs.Taking.{takes-held, takes-room, takes-full}
 use Rattle.pair_table.specs.Pairs.{in_pairs}
 use Rattle.pair_table.specs.declared.pair.Pair.{Pair}
-use Rattle.pair_table.specs.Order.{Up, up_from, inside-from, ordered-from, missing-up}
-use Rattle.pair_table.specs.Paired.{size-pairs, found_some, found-put, missing-none, missing-put}
+use Rattle.pair_table.proofs.Order.{inside-from, ordered-from, missing-up}
+use Rattle.pair_table.specs.Laws.{Up, up_from, size-pairs}
+use Rattle.pair_table.proofs.Paired.{found_some, found-put, missing-none, missing-put}
 use Rattle.pair_table.proofs.PairTableHoldings.set.Goals as goal
 
 pub returns-then-len-self : goal.returns-then-len-self
