@@ -1,11 +1,9 @@
 -- What a table of pairs means, and what an edit of it changes.
 use Rattle.std.proofs.Common.{◌≡◌, ◌≢◌, ℕ, zero, suc, ◌<◌, ◌≤◌, true, List, [], ◌∷◌, ◌++◌, length, get_or, set, take, drop, filter, is_some, Some, None, sym, refl, ap, ◌∙◌, ⊎_elim, arith}
-use Rattle.std.proofs.ByRecursion.{All-get_or}
 use Rattle.std.proofs.lemmas.List.{get_or_default}
-use Rattle.std.proofs.lemmas.Bool.{cond_both, eqb-true, eqb-false, not-true, not-false, cases_lt, both_ways}
-use Rattle.holdings.specs.Maps.{rank, nothing, put, without, one, size}
+use Rattle.std.proofs.lemmas.Bool.{cond_both, eqb-true, eqb-false, not-true, not-false, cases_lt}
+use Rattle.holdings.specs.Maps.{rank, nothing, put, without}
 use Rattle.holdings.proofs.Changes.{changed-tablet, changed_row, changed-other, changed-at, changed-swap, changed-twice, without-same, without_other, without-nothing}
-use Rattle.holdings.proofs.Sizes.{size-changed, size-nothing}
 use Rattle.pair_table.specs.Pairs.{in_pairs, rank_of, Ordered, Found, Missing, elsewhere}
 use Rattle.pair_table.specs.declared.pair.Pair.{Pair}
 use Rattle.pair_table.specs.Laws.{Up}

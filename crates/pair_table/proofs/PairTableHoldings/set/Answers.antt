@@ -24,8 +24,8 @@ returns-then-len-self c =
       same = refl;
     }
 
-pub invariant-of-self-in-Err : goal.invariant-of-self-in-Err
-invariant-of-self-in-Err c =
+pub invariant_of-self-in-Err : goal.invariant_of-self-in-Err
+invariant_of-self-in-Err c =
     let s = c.args.self.now in
     let ps = s.pairs.items in
     let x : Pair = record { tablet = c.args.tablet; row = c.args.row; stamp = c.args.stamp } in
@@ -35,7 +35,12 @@ invariant-of-self-in-Err c =
     let len : after.len ≡ s.pairs.len + 1 = c.insert.ensures.len ∙ cond-true _ _ _ ok in
     let up : Up after.items =
     subst Up (sym items) (missing-up ps c.in-Err.i x (omega arith) (omega arith) c.in-Err.ensures (up_from ps s.inside s.ordered)) in
-    (omega arith, (omega (arith, c.insert.ensures.capacity), (inside-from after.items up, (ordered-from after.items up, tt))))
+    record {
+      few = omega arith;
+      reserved = omega (arith, c.insert.ensures.capacity);
+      inside = inside-from after.items up;
+      ordered = ordered-from after.items up;
+    }
 
 pub returns-in-Ok : goal.returns-in-Ok
 returns-in-Ok c =
