@@ -1,6 +1,6 @@
 -- Why a table in order keeps the laws of a store.
 use Rattle.std.specs.Prelude.{◌≡◌, ℕ, zero, suc, ◌<◌, ◌≤◌, true, List, [], ◌∷◌, length, is_some, Some, None, refl}
-use Rattle.std.specs.List.{AllByRecursion as All}
+use Rattle.std.specs.List.{AllByRecursion}
 use Rattle.std.proofs.Common.{sym, ap, ◌∙◌, subst, zero-lt-suc, suc-le-suc}
 use Rattle.std.proofs.ByRecursion.{All-from_get_or}
 use Rattle.std.proofs.lemmas.Bool.{false≢true}
@@ -13,7 +13,7 @@ use Rattle.pair_table.specs.declared.pair.Pair.{Pair}
 -- each pair is in range, and comes before those that follow it
 abbrev pub Up : List Pair → Type 0
 Up [] = Unit {0}
-Up (p ∷ ps) = (p.tablet < 16) × (p.row < 4096) × All (λ q. rank_of p < rank_of q) ps × Up ps
+Up (p ∷ ps) = (p.tablet < 16) × (p.row < 4096) × AllByRecursion (λ q. rank_of p < rank_of q) ps × Up ps
 
 pub up_from : (ps : List Pair) → Inside ps → Ordered ps → Up ps
 up_from [] inside ordered = tt
@@ -26,7 +26,7 @@ up_from (p ∷ ps) inside ordered =
     )
 
 -- a pair that comes before all of them is absent
-before-all : (ps : List Pair) (t r : ℕ) → All (λ q. rank t r < rank_of q) ps → in_pairs ps t r ≡ None
+before-all : (ps : List Pair) (t r : ℕ) → AllByRecursion (λ q. rank t r < rank_of q) ps → in_pairs ps t r ≡ None
 unfolding in_pairs nothing
 before-all [] t r less = refl
 before-all (p ∷ ps) t r less = changed-before (in_pairs ps) p.tablet p.row (Some p.stamp) t r less.0 ∙ before-all ps t r less.1
