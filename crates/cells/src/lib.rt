@@ -1,9 +1,11 @@
 // A store that has a cell for each pair of a tablet and a row.
+#![tactic(auto)]
+
 ghost use Rattle.std.specs.Prelude.{◌≡◌, ℕ, ◌<◌, ◌≤◌, min, IfOk, vec_len};
 ghost use Rattle.holdings.specs.Maps.{rank, nothing, changed, size, takes};
 ghost use Rattle.cells.specs.Cells.{in_cells};
-ghost use borrow.Author.Rules.{rules};
-ghost use Rattle.std.proofs.Common.{arith};
+ghost use Rattle.std.proofs.Common.{subst};
+ghost use Rattle.cells.specs.Laws.{held-inside};
 
 use holdings::faults::StoreFault;
 use holdings::store::{Holdings, ROWS, TABLETS};
@@ -26,7 +28,8 @@ pub struct Cells {
 
 // Where the cell of a pair stands.
 fn place(tablet: u8, row: u16) -> usize
-    requires { (tablet < 16) × (row < 4096) }
+    requires tablets { tablet < 16 }
+    requires rows { row < 4096 }
     ensures { result ≡ rank tablet row }
 {
     tablet as usize * ROWS as usize + row as usize
@@ -74,9 +77,9 @@ impl Holdings for Cells {
 
     ghost most_held = { λ s. s.most };
 
-    ghost inside = { unfold in_cells in Prim.search rules };
+    ghost inside = { λ s. held-inside s.cells.items };
 
-    ghost within = { first_of (Prim.search rules, Prim.grind (arith, Self.row.coded.inj)) };
+    ghost within = { λ s. subst (λ n. n ≤ s.most) s.counted s.within };
 
     fn get(&self, tablet: u8, row: u16) -> Option<u32> {
         if tablet >= TABLETS || row >= ROWS {

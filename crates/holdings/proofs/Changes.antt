@@ -1,5 +1,5 @@
 -- What a change of one pair leaves, and what it has to do with another change.
-use Rattle.std.proofs.Common.{◌≡◌, ℕ, Option, refl, ap, ◌∙◌, ⊎_elim, arith}
+use Rattle.std.proofs.Common.{◌≡◌, ℕ, ◌<◌, true, is_some, Option, sym, refl, ap, ◌∙◌, ⊎_elim, arith}
 use mathlib.Core.Path.{fun_ext}
 use Rattle.std.proofs.lemmas.Bool.{cond-true, cond-false, and_from, and_left, and_right, eq-eqb, ne_eqb, cases_eq}
 use Rattle.std.proofs.lemmas.Bool.Decides.{nat_tests}
@@ -26,6 +26,21 @@ changed-other m t r o u v apart =
     ⊎_elim
     (λ p. ⊎_elim (λ q. absurd (apart (omega arith))) (λ q. changed_row m t r o u v q) (cases_eq v r))
     (λ p. changed-tablet m t r o u v p)
+    (cases_eq u t)
+
+-- a pair that comes before
+pub changed-before : (m : Map) (t r : ℕ) (o : Option ℕ) (u v : ℕ) → rank u v < rank t r → changed m t r o u v ≡ m u v
+changed-before m t r o u v less = changed-other m t r o u v (λ e. omega arith)
+
+-- what is held stays in range
+pub changed-inside : (m : Map) (t r : ℕ) (o : Option ℕ) (u v : ℕ) → t < 16 → r < 4096 → (is_some (m u v) ≡ true → (u < 16) × (v < 4096)) → is_some (changed m t r o u v) ≡ true → (u < 16) × (v < 4096)
+changed-inside m t r o u v tl rl inside some =
+    ⊎_elim
+    (λ p. ⊎_elim
+    (λ q. (omega arith, omega arith))
+    (λ q. inside (ap is_some (sym (changed_row m t r o u v q)) ∙ some))
+    (cases_eq v r))
+    (λ p. inside (ap is_some (sym (changed-tablet m t r o u v p)) ∙ some))
     (cases_eq u t)
 
 pub changed-swap : (m : Map) (t r u v : ℕ) (o p : Option ℕ) → (rank t r ≡ rank u v → ⊥) → changed (changed m t r o) u v p ≡ changed (changed m u v p) t r o

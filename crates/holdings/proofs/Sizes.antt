@@ -1,7 +1,7 @@
 -- How the size of a map follows a change of one pair.
-use Rattle.std.proofs.Common.{◌≡◌, ℕ, zero, suc, ◌+◌, ◌<◌, ◌≤◌, None, Option, sym, refl, ap, ⊎_elim, arith}
+use Rattle.std.proofs.Common.{◌≡◌, ℕ, zero, suc, ◌+◌, ◌<◌, ◌≤◌, Some, None, Option, sym, refl, ap, ⊎_elim, arith}
 use Rattle.std.proofs.lemmas.Bool.{cases_eq}
-use Rattle.holdings.specs.Maps.{Map, nothing, changed, sum_to, one, size}
+use Rattle.holdings.specs.Maps.{Map, nothing, changed, put, sum_to, one, size}
 use Rattle.holdings.proofs.Changes.{changed-here, changed-tablet, changed_row}
 
 sum_same : (v w : ℕ → ℕ) (n : ℕ) → ((k : ℕ) → k < n → v k ≡ w k) → sum_to v n ≡ sum_to w n
@@ -40,6 +40,10 @@ size-changed m t r o tl rl =
     = sum-change (λ v. one (changed m t r o t v)) (λ v. one (m t v)) r 4096 rl (λ j apart. ap one (changed_row m t r o t j apart)) in
     let here : one (changed m t r o t r) ≡ one o = ap one (changed-here m t r o) in
     omega arith
+
+-- a pair that was absent is one more
+pub size-more : (m : Map) (t r stamp : ℕ) → t < 16 → r < 4096 → m t r ≡ None → size (put m t r stamp) ≡ suc (size m)
+size-more m t r stamp tl rl none = omega (arith, size-changed m t r (Some stamp) tl rl, ap one none)
 
 -- a pair that is held is counted
 pub one-le-size : (m : Map) (t r : ℕ) → t < 16 → r < 4096 → one (m t r) ≤ size m

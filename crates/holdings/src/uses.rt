@@ -19,7 +19,7 @@ fn rows_in_range(rows: &[u16]) -> bool
 }
 
 fn count_absent<S: Holdings>(store: &S, tablet: u8, rows: &[u16]) -> usize
-    ensures { result ≡ absent (held store.now) tablet rows.now }
+    ensures { result ≡ absent (S.held store.now) tablet rows.now }
 {
     let mut count = 0;
     for row in rows {
@@ -42,7 +42,7 @@ fn stamp_of(stamps: &[u32], row: u16) -> u32
 
 // Whether every row is in range, and there is room for those that are absent.
 fn takes_all<S: Holdings>(store: &S, tablet: u8, rows: &[u16]) -> bool
-    ensures { result ≡ takes_all (most_held store.now) (held store.now) tablet rows.now }
+    ensures { result ≡ takes_all (S.most_held store.now) (S.held store.now) tablet rows.now }
 {
     tablet < TABLETS
         && rows_in_range(rows)
@@ -56,10 +56,10 @@ pub fn put_all<S: Holdings>(
     rows: &[u16],
     stamps: &[u32],
 ) -> Result<(), StoreFault>
-    ensures answer { result ≡ answered (takes_all (most_held store.old) (held store.old) tablet rows.now) }
-    ensures after { held store.new ≡ (if is_ok result then put_all (held store.old) tablet rows.now (stamp_in stamps.now) else held store.old) }
-    ensures same { most_held store.new ≡ most_held store.old }
-    ensures one_by_one { OneByOne (most_held store.old) (held store.old) tablet rows.now (stamp_in stamps.now) (is_ok result) (held store.new) }
+    ensures answer { result ≡ answered (takes_all (S.most_held store.old) (S.held store.old) tablet rows.now) }
+    ensures after { S.held store.new ≡ (if is_ok result then put_all (S.held store.old) tablet rows.now (stamp_in stamps.now) else S.held store.old) }
+    ensures same { S.most_held store.new ≡ S.most_held store.old }
+    ensures one_by_one { OneByOne (S.most_held store.old) (S.held store.old) tablet rows.now (stamp_in stamps.now) (is_ok result) (S.held store.new) }
 {
     if !takes_all(store, tablet, rows) {
         return Err(StoreFault::Full);
@@ -73,8 +73,8 @@ pub fn put_all<S: Holdings>(
 
 // Forgets every tablet.
 pub fn forget_all<S: Holdings>(store: &mut S)
-    ensures after { held store.new ≡ nothing }
-    ensures same { most_held store.new ≡ most_held store.old }
+    ensures after { S.held store.new ≡ nothing }
+    ensures same { S.most_held store.new ≡ S.most_held store.old }
 {
     for tablet in 0..TABLETS {
         store.forget(tablet);

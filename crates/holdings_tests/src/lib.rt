@@ -1,3 +1,5 @@
 // The two stores, run side by side.
+#![tactic(auto)]
+
 #[cfg(test)]
 mod tests;

@@ -1,5 +1,5 @@
 -- What a table of pairs means, and the order that it is kept in.
-use Rattle.std.specs.Prelude.{◌≡◌, ℕ, ◌<◌, ◌≤◌, Bool, not, List, [], ◌∷◌, length, get_or, ◌==◌, slice_index_or}
+use Rattle.std.specs.Prelude.{◌≡◌, ℕ, ◌<◌, ◌≤◌, Bool, not, List, [], ◌∷◌, length, ◌==◌, slice_index_or}
 use Rattle.holdings.specs.Maps.{Map, rank, nothing, put}
 use Rattle.pair_table.specs.declared.pair.Pair.{Pair}
 
@@ -14,7 +14,7 @@ rank_of p = rank p.tablet p.row
 
 -- each pair is in range
 abbrev pub Inside : List Pair → Type 0
-Inside ps = (k : ℕ) (d : Pair) → k < length ps → ((get_or ps k d).tablet < 16) × ((get_or ps k d).row < 4096)
+Inside ps = (k : ℕ) (d : Pair) → k < length ps → ((slice_index_or ps k d).tablet < 16) × ((slice_index_or ps k d).row < 4096)
 
 -- each pair comes before those that follow it
 abbrev pub Ordered : List Pair → Type 0
@@ -22,7 +22,7 @@ Ordered ps = (i j : ℕ) (d : Pair) → (i < j) × (j < length ps) → rank_of (
 
 -- the pair of this tablet and row stands at i
 abbrev pub Found : List Pair → ℕ → ℕ → ℕ → Type 0
-Found ps tablet row i = (i < length ps) × ((d : Pair) → ((get_or ps i d).tablet ≡ tablet) × ((get_or ps i d).row ≡ row))
+Found ps tablet row i = (i < length ps) × ((d : Pair) → ((slice_index_or ps i d).tablet ≡ tablet) × ((slice_index_or ps i d).row ≡ row))
 
 -- no pair is of this tablet and row: those before i come before it, and those from i on after it
 abbrev pub Missing : List Pair → ℕ → ℕ → ℕ → Type 0

@@ -1,10 +1,10 @@
 // A store of few pairs: a table in order of tablet and row, found by bisection.
+#![tactic(auto)]
+
 ghost use Rattle.std.specs.Prelude.{◌≡◌, ℕ, ◌<◌, ◌≤◌, min, IfOk, vec_len, vec_capacity, filter, MatchResult, slice_index_or};
 ghost use Rattle.holdings.specs.Maps.{nothing, rank};
 ghost use Rattle.pair_table.specs.Pairs.{in_pairs, rank_of, Inside, Ordered, Found, Missing, elsewhere};
-ghost use Rattle.pair_table.specs.Order.{up_from};
-ghost use Rattle.pair_table.specs.Paired.{held-inside, size-pairs};
-ghost use Rattle.std.proofs.Common.{arith};
+ghost use Rattle.pair_table.specs.Laws.{held-inside, held-within};
 
 mod pair;
 
@@ -94,9 +94,9 @@ impl Holdings for PairTable {
 
     ghost most_held = { λ s. s.most };
 
-    ghost inside = { λ s t r some. held-inside s.pairs.items t r (up_from s.pairs.items s.inside s.ordered) some };
+    ghost inside = { λ s. held-inside s.pairs.items s.inside s.ordered };
 
-    ghost within = { λ s. omega (arith, size-pairs s.pairs.items (up_from s.pairs.items s.inside s.ordered), s.pairs.ok.0) };
+    ghost within = { λ s. held-within s.pairs.items s.pairs.len s.most s.inside s.ordered s.pairs.ok.0 s.few };
 
     fn get(&self, tablet: u8, row: u16) -> Option<u32> {
         if tablet >= TABLETS || row >= ROWS {

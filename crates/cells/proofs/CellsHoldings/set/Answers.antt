@@ -10,6 +10,6 @@ write-requires c =
     let m = in_cells s.cells.items in
     let t = c.args.tablet in
     let r = c.args.row in
-    let taken : takes s.most m t r ≡ true = sym c.if-not-has-room.ensures in
+    let taken : takes s.most m t r ≡ true = sym c.if-not-has_room.ensures in
     let range = taken-in-range s.most m t r taken in
     record { tablets = range.0; rows = range.1; room = size-taken s.most m t r _ taken (omega arith) }

@@ -9,14 +9,14 @@ use Rattle.holdings.proofs.Putting.{each-is-all, taken_more, one-by-one-refused,
 use Rattle.holdings.proofs.Taking.{ok-answered}
 use Rattle.holdings.proofs.uses.put_all.Goals as goal
 
-pub returns-then-not-takes-all : goal.returns-then-not-takes-all
-returns-then-not-takes-all g c =
+pub returns-then-not-takes_all : goal.returns-then-not-takes_all
+returns-then-not-takes_all g c =
     let s = g.S.Holdings in
     let m = s.held c.args.store.now in
     let most = s.most_held c.args.store.now in
     let t = c.args.tablet in
     let rows = c.args.rows.now in
-    let none : takes_all most m t rows ≡ false = sym c.if-not-takes-all.ensures in
+    let none : takes_all most m t rows ≡ false = sym c.if-not-takes_all.ensures in
     record {
       answer = sym (ap answered none);
       after = refl;
@@ -40,7 +40,7 @@ loop-row-preserved g c =
     let ok : is_ok c.set.result ≡ true =
     ap is_ok c.set.ensures.answer ∙ ok-answered _ ∙ ap (λ k. takes k n t row) inv.1 ∙ both.0 in
     let after : s.held c.set.new.self ≡ put n t row (stamp row) =
-    c.set.ensures.after ∙ cond-true _ _ _ ok ∙ ap (put n t row) c.stamp-of.ensures in (
+    c.set.ensures.after ∙ cond-true _ _ _ ok ∙ ap (put n t row) c.stamp_of.ensures in (
       after ∙ ap (λ k. put k t row (stamp row)) inv.0 ∙ sym (fold_more (λ k x. put k t x (stamp x)) _ rows i 0 l),
       c.set.ensures.same ∙ inv.1,
       ap (λ k. takes_all most k t (drop (i + 1) rows)) after ∙ both.1,
@@ -55,7 +55,7 @@ returns g c =
     let t = c.args.tablet in
     let rows = c.args.rows.now in
     let stamp = stamp_in c.args.stamps.now in
-    let all : takes_all most m t rows ≡ true = sym c.if-not-takes-all.ensures in
+    let all : takes_all most m t rows ≡ true = sym c.if-not-takes_all.ensures in
     let each : n ≡ put_each m t rows stamp = c.loop-row.invariant.0 ∙ ap (λ xs. put_each m t xs stamp) (take_all c.loop-row.row-index rows c.loop-row-test.false) in
     record {
       answer = sym (ap answered all);

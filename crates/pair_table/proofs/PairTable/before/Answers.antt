@@ -1,6 +1,6 @@
 use Rattle.std.proofs.Common.{ℕ, ◌+◌, ◌-◌, ◌/◌, ◌<◌, length, sym, arith, ltb-false, ltb-true}
 use Rattle.holdings.specs.Maps.{rank}
-use Rattle.pair_table.specs.Order.{below_more, above_more, inside-read}
+use Rattle.pair_table.proofs.Order.{below_more, above_more, inside-read}
 use Rattle.pair_table.proofs.PairTable.before.Goals as goal
 
 pub precedes-requires : goal.precedes-requires

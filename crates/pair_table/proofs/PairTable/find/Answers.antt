@@ -1,7 +1,7 @@
 use Rattle.std.proofs.Common.{◌≡◌, suc, ◌<◌, length, get_or, ap, ⊎_elim, arith}
 use Rattle.holdings.specs.Maps.{rank}
 use Rattle.pair_table.specs.Pairs.{rank_of}
-use Rattle.pair_table.specs.Order.{above_more, inside-read}
+use Rattle.pair_table.proofs.Order.{above_more, inside-read}
 use Rattle.pair_table.proofs.PairTable.find.Goals as goal
 
 pub returns-else-pair-tablet : goal.returns-else-pair-tablet

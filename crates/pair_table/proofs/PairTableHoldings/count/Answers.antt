@@ -1,6 +1,5 @@
 use Rattle.std.proofs.Common.{arith}
-use Rattle.pair_table.specs.Order.{up_from}
-use Rattle.pair_table.specs.Paired.{size-pairs}
+use Rattle.pair_table.specs.Laws.{up_from, size-pairs}
 use Rattle.pair_table.proofs.PairTableHoldings.count.Goals as goal
 
 pub returns : goal.returns

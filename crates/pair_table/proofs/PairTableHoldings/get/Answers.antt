@@ -1,6 +1,6 @@
 use Rattle.std.proofs.Common.{sym, ⊎_elim}
-use Rattle.pair_table.specs.Order.{up_from}
-use Rattle.pair_table.specs.Paired.{past-tablets, past-rows, found-stamp, missing-none}
+use Rattle.pair_table.specs.Laws.{up_from}
+use Rattle.pair_table.proofs.Paired.{past-tablets, past-rows, found-stamp, missing-none}
 use Rattle.pair_table.proofs.PairTableHoldings.get.Goals as goal
 
 pub returns-then-tablet-ge-TABLETS : goal.returns-then-tablet-ge-TABLETS

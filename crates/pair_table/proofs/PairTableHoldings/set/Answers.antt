@@ -5,8 +5,9 @@ use Rattle.holdings.specs.Answers.{answered}
 use Rattle.holdings.proofs.Taking.{takes-held, takes-room, takes-full}
 use Rattle.pair_table.specs.Pairs.{in_pairs}
 use Rattle.pair_table.specs.declared.pair.Pair.{Pair}
-use Rattle.pair_table.specs.Order.{Up, up_from, inside-from, ordered-from, missing-up}
-use Rattle.pair_table.specs.Paired.{size-pairs, found_some, found-put, missing-none, missing-put}
+use Rattle.pair_table.proofs.Order.{inside-from, ordered-from, missing-up}
+use Rattle.pair_table.specs.Laws.{Up, up_from, size-pairs}
+use Rattle.pair_table.proofs.Paired.{found_some, found-put, missing-none, missing-put}
 use Rattle.pair_table.proofs.PairTableHoldings.set.Goals as goal
 
 pub returns-then-len-self : goal.returns-then-len-self
@@ -23,8 +24,8 @@ returns-then-len-self c =
       same = refl;
     }
 
-pub invariant-of-self-in-Err : goal.invariant-of-self-in-Err
-invariant-of-self-in-Err c =
+pub invariant_of-self-in-Err : goal.invariant_of-self-in-Err
+invariant_of-self-in-Err c =
     let s = c.args.self.now in
     let ps = s.pairs.items in
     let x : Pair = record { tablet = c.args.tablet; row = c.args.row; stamp = c.args.stamp } in
@@ -34,7 +35,12 @@ invariant-of-self-in-Err c =
     let len : after.len ≡ s.pairs.len + 1 = c.insert.ensures.len ∙ cond-true _ _ _ ok in
     let up : Up after.items =
     subst Up (sym items) (missing-up ps c.in-Err.i x (omega arith) (omega arith) c.in-Err.ensures (up_from ps s.inside s.ordered)) in
-    (omega arith, (omega (arith, c.insert.ensures.capacity), (inside-from after.items up, (ordered-from after.items up, tt))))
+    record {
+      few = omega arith;
+      reserved = omega (arith, c.insert.ensures.capacity);
+      inside = inside-from after.items up;
+      ordered = ordered-from after.items up;
+    }
 
 pub returns-in-Ok : goal.returns-in-Ok
 returns-in-Ok c =

@@ -1,15 +1,12 @@
 -- What a table of pairs means, and what an edit of it changes.
-use Rattle.std.specs.Prelude.{◌≡◌, ℕ, zero, suc, ◌<◌, ◌≤◌, true, List, [], ◌∷◌, ◌++◌, length, get_or, take, drop, is_some, Some, None, filter, ◌≢◌, slice_index_or, slice_set, refl}
-use Rattle.std.proofs.Common.{sym, ap, ◌∙◌, ⊎_elim, arith}
-use Rattle.std.proofs.ByRecursion.{All-get_or}
+use Rattle.std.proofs.Common.{◌≡◌, ◌≢◌, ℕ, zero, suc, ◌<◌, ◌≤◌, true, List, [], ◌∷◌, ◌++◌, length, get_or, set, take, drop, filter, is_some, Some, None, sym, refl, ap, ◌∙◌, ⊎_elim, arith}
 use Rattle.std.proofs.lemmas.List.{get_or_default}
-use Rattle.std.proofs.lemmas.Bool.{cond_both, eqb-true, eqb-false, not-true, not-false, cases_lt, both_ways}
-use Rattle.holdings.specs.Maps.{rank, nothing, put, without, one, size}
+use Rattle.std.proofs.lemmas.Bool.{cond_both, eqb-true, eqb-false, not-true, not-false, cases_lt}
+use Rattle.holdings.specs.Maps.{rank, nothing, put, without}
 use Rattle.holdings.proofs.Changes.{changed-tablet, changed_row, changed-other, changed-at, changed-swap, changed-twice, without-same, without_other, without-nothing}
-use Rattle.holdings.proofs.Sizes.{size-changed, size-nothing}
 use Rattle.pair_table.specs.Pairs.{in_pairs, rank_of, Ordered, Found, Missing, elsewhere}
 use Rattle.pair_table.specs.declared.pair.Pair.{Pair}
-use Rattle.pair_table.specs.Order.{Up}
+use Rattle.pair_table.specs.Laws.{Up}
 
 pub none-in-pairs : in_pairs [] ≡ nothing
 unfolding in_pairs
@@ -17,13 +14,13 @@ none-in-pairs = refl
 
 -- ---- what is at one tablet and row
 
-misses : (ps : List Pair) (t r : ℕ) → ((k : ℕ) (d : Pair) → k < length ps → rank_of (slice_index_or ps k d) ≢ rank t r) → in_pairs ps t r ≡ None
+misses : (ps : List Pair) (t r : ℕ) → ((k : ℕ) (d : Pair) → k < length ps → rank_of (get_or ps k d) ≢ rank t r) → in_pairs ps t r ≡ None
 unfolding in_pairs nothing
 misses [] t r h = refl
 misses (p ∷ ps) t r h =
     changed-other (in_pairs ps) p.tablet p.row (Some p.stamp) t r (h zero p (omega arith)) ∙ misses ps t r (λ k d l. h (suc k) d (omega arith))
 
-hits : (ps : List Pair) (i t r : ℕ) (x : Pair) → i < length ps → x ≡ slice_index_or ps i x → x.tablet ≡ t → x.row ≡ r → ((k : ℕ) (d : Pair) → k < i → rank_of (slice_index_or ps k d) ≢ rank t r) → in_pairs ps t r ≡ Some x.stamp
+hits : (ps : List Pair) (i t r : ℕ) (x : Pair) → i < length ps → x ≡ get_or ps i x → x.tablet ≡ t → x.row ≡ r → ((k : ℕ) (d : Pair) → k < i → rank_of (get_or ps k d) ≢ rank t r) → in_pairs ps t r ≡ Some x.stamp
 unfolding in_pairs
 hits [] i t r x l read e f h = absurd (omega arith)
 hits (p ∷ ps) zero t r x l read e f h =
@@ -35,7 +32,7 @@ hits (p ∷ ps) (suc i) t r x l read e f h =
 
 -- ---- edits
 
-inserts : (ps : List Pair) (i : ℕ) (x : Pair) → i ≤ length ps → ((k : ℕ) (d : Pair) → k < i → rank_of (slice_index_or ps k d) ≢ rank_of x) → in_pairs (take i ps ++ x ∷ drop i ps) ≡ put (in_pairs ps) x.tablet x.row x.stamp
+inserts : (ps : List Pair) (i : ℕ) (x : Pair) → i ≤ length ps → ((k : ℕ) (d : Pair) → k < i → rank_of (get_or ps k d) ≢ rank_of x) → in_pairs (take i ps ++ x ∷ drop i ps) ≡ put (in_pairs ps) x.tablet x.row x.stamp
 unfolding in_pairs
 inserts ps zero x l h = refl
 inserts [] (suc i) x l h = absurd (omega arith)
@@ -43,7 +40,7 @@ inserts (p ∷ ps) (suc i) x l h =
     ap (λ m. put m p.tablet p.row p.stamp) (inserts ps i x (omega arith) (λ k d m. h (suc k) d (omega arith)))
     ∙ changed-swap (in_pairs ps) x.tablet x.row p.tablet p.row (Some x.stamp) (Some p.stamp) (λ e. h zero p (omega arith) (sym e))
 
-replaces : (ps : List Pair) (i : ℕ) (x : Pair) → i < length ps → ((d : Pair) → ((get_or ps i d).tablet ≡ x.tablet) × ((get_or ps i d).row ≡ x.row)) → ((k : ℕ) (d : Pair) → k < i → rank_of (slice_index_or ps k d) ≢ rank_of x) → in_pairs (slice_set ps i x) ≡ put (in_pairs ps) x.tablet x.row x.stamp
+replaces : (ps : List Pair) (i : ℕ) (x : Pair) → i < length ps → ((d : Pair) → ((get_or ps i d).tablet ≡ x.tablet) × ((get_or ps i d).row ≡ x.row)) → ((k : ℕ) (d : Pair) → k < i → rank_of (get_or ps k d) ≢ rank_of x) → in_pairs (set ps i x) ≡ put (in_pairs ps) x.tablet x.row x.stamp
 unfolding in_pairs
 replaces [] i x l same h = absurd (omega arith)
 replaces (p ∷ ps) zero x l same h =
@@ -64,16 +61,6 @@ keeps (p ∷ ps) tablet =
 
 -- ---- the whole table
 
--- as many pairs are held as it has
-pub size-pairs : (ps : List Pair) → Up ps → size (in_pairs ps) ≡ length ps
-unfolding in_pairs
-size-pairs [] up = size-nothing
-size-pairs (p ∷ ps) up =
-    let rest = size-pairs ps up.3 in
-    let free : one (in_pairs ps p.tablet p.row) ≡ 0 =
-    ap one (misses ps p.tablet p.row (λ k d l e. omega (arith, All-get_or (λ q. rank_of p < rank_of q) ps k d l up.2))) in
-    omega (arith, size-changed (in_pairs ps) p.tablet p.row (Some p.stamp) up.0 up.1)
-
 pub past-tablets : (ps : List Pair) (t r : ℕ) → Up ps → 16 ≤ t → in_pairs ps t r ≡ None
 unfolding in_pairs nothing
 past-tablets [] t r up l = refl
@@ -86,27 +73,21 @@ past-rows [] t r up l = refl
 past-rows (p ∷ ps) t r up l =
     changed_row (in_pairs ps) p.tablet p.row (Some p.stamp) t r (λ e. omega (arith, up.1)) ∙ past-rows ps t r up.3 l
 
-pub held-inside : (ps : List Pair) (t r : ℕ) → Up ps → is_some (in_pairs ps t r) ≡ true → (t < 16) × (r < 4096)
-held-inside ps t r up some = (
-  ⊎_elim (λ l. l) (λ g. absurd (both_ways _ (ap is_some (past-tablets ps t r up g)) some)) (cases_lt t 16),
-  ⊎_elim (λ l. l) (λ g. absurd (both_ways _ (ap is_some (past-rows ps t r up g)) some)) (cases_lt r 4096),
-)
-
 -- ---- what a search found
 
-before-found : (ps : List Pair) (t r i : ℕ) → Ordered ps → Found ps t r i → (k : ℕ) (d : Pair) → k < i → rank_of (slice_index_or ps k d) ≢ rank t r
+before-found : (ps : List Pair) (t r i : ℕ) → Ordered ps → Found ps t r i → (k : ℕ) (d : Pair) → k < i → rank_of (get_or ps k d) ≢ rank t r
 before-found ps t r i ordered found k d l e =
     let up = ordered k i d (l, found.0) in
     let at = found.1 d in
     omega (arith, at.0, at.1)
 
-pub found-stamp : (ps : List Pair) (t r i : ℕ) (x : Pair) → Ordered ps → Found ps t r i → x ≡ slice_index_or ps i x → in_pairs ps t r ≡ Some x.stamp
+pub found-stamp : (ps : List Pair) (t r i : ℕ) (x : Pair) → Ordered ps → Found ps t r i → x ≡ get_or ps i x → in_pairs ps t r ≡ Some x.stamp
 found-stamp ps t r i x ordered found read =
     hits ps i t r x found.0 read (ap (λ p. p.tablet) read ∙ (found.1 x).0) (ap (λ p. p.row) read ∙ (found.1 x).1) (before-found ps t r i ordered found)
 
 pub found_some : (ps : List Pair) (t r i : ℕ) (d : Pair) → Ordered ps → Found ps t r i → is_some (in_pairs ps t r) ≡ true
 found_some ps t r i d ordered found =
-    ap is_some (found-stamp ps t r i (slice_index_or ps i d) ordered found (get_or_default ps i d (slice_index_or ps i d) found.0))
+    ap is_some (found-stamp ps t r i (get_or ps i d) ordered found (get_or_default ps i d (get_or ps i d) found.0))
 
 pub missing-none : (ps : List Pair) (t r i : ℕ) → Missing ps t r i → in_pairs ps t r ≡ None
 missing-none ps t r i missing =
@@ -114,7 +95,7 @@ missing-none ps t r i missing =
 
 -- ---- what a table's edits leave
 
-pub found-put : (ps : List Pair) (i : ℕ) (x : Pair) → Ordered ps → Found ps x.tablet x.row i → in_pairs (slice_set ps i x) ≡ put (in_pairs ps) x.tablet x.row x.stamp
+pub found-put : (ps : List Pair) (i : ℕ) (x : Pair) → Ordered ps → Found ps x.tablet x.row i → in_pairs (set ps i x) ≡ put (in_pairs ps) x.tablet x.row x.stamp
 found-put ps i x ordered found = replaces ps i x found.0 found.1 (before-found ps x.tablet x.row i ordered found)
 
 pub missing-put : (ps : List Pair) (i : ℕ) (x : Pair) → Missing ps x.tablet x.row i → in_pairs (take i ps ++ x ∷ drop i ps) ≡ put (in_pairs ps) x.tablet x.row x.stamp
