@@ -1,6 +1,6 @@
 -- The two laws of a codec, and that each way to put codecs together keeps them.
 use Rattle.std.proofs.Common.{◌≡◌, ℕ, zero, suc, ◌+◌, ◌*◌, ◌/◌, ◌%◌, ◌^◌, ◌<◌, ◌≤◌, Bool, true, false, ◌&&◌, eqb, leb, List, [], ◌∷◌, ◌++◌, length, take, drop, Some, None, Option, sym, refl, ap, ◌∙◌, subst, pow-suc, arith}
-use Rattle.std.specs.List.{AllByRecursion as All}
+use Rattle.std.specs.List.{AllByRecursion}
 use Rattle.std.proofs.lemmas.List.{append-nil, append_assoc, length-append, take-append-drop, take_at, drop_at, length-take-le}
 use Rattle.std.proofs.lemmas.Bool.{le-leb, leb-true, eqb-true, and_parts, and_from}
 use Rattle.packed_layout.specs.Codec.{Codec, when, bind, text, via, seen, such, bytes, value, number, ◌then◌, write_all, read_times, times, counted, within, find, one_of, alone, read_whole, Bytes}
@@ -164,7 +164,7 @@ within-lawful k low high small = fit-lawful (such_lawful (λ n. leb low n && leb
 -- n values
 
 module _ {A : Type 0} {c : Codec A} {F : A → Type 0} (C : Lawful c F) where
-  pub times-reads : (n : ℕ) → Reads (times c n) (λ xs. (length xs ≡ n) × All F xs)
+  pub times-reads : (n : ℕ) → Reads (times c n) (λ xs. (length xs ≡ n) × AllByRecursion F xs)
   times-reads zero [] rest f = refl
   times-reads zero (x ∷ xs) rest f = absurd (omega arith)
   times-reads (suc n) [] rest f = absurd (omega arith)
@@ -172,15 +172,15 @@ module _ {A : Type 0} {c : Codec A} {F : A → Type 0} (C : Lawful c F) where
       let count : length xs ≡ n = omega arith in
       rw (append_assoc, C.reads x (write_all c xs ++ rest) f.1.0, times-reads n xs rest (count, f.1.1))
 
-  pub times-wrote : (n : ℕ) → Wrote (times c n) (λ xs. (length xs ≡ n) × All F xs)
-  times-wrote zero s p h e = subst (Written (times c 0) (λ xs. (length xs ≡ 0) × All F xs) s) (some_inj e) (refl, (refl, tt))
+  pub times-wrote : (n : ℕ) → Wrote (times c n) (λ xs. (length xs ≡ n) × AllByRecursion F xs)
+  times-wrote zero s p h e = subst (Written (times c 0) (λ xs. (length xs ≡ 0) × AllByRecursion F xs) s) (some_inj e) (refl, (refl, tt))
   times-wrote (suc n) s p h e =
       let a = front C _ s p h e in
       let b = bind-some (read_times c n a.at.1) _ p a.next in
       let more = times-wrote n a.at.1 b.0 a.later b.1 in
-      subst (Written (times c (suc n)) (λ xs. (length xs ≡ suc n) × All F xs) s) (some_inj b.2) (rw append_assoc (cc), (ap suc more.1.0, (a.fits, more.1.1)))
+      subst (Written (times c (suc n)) (λ xs. (length xs ≡ suc n) × AllByRecursion F xs) s) (some_inj b.2) (rw append_assoc (cc), (ap suc more.1.0, (a.fits, more.1.1)))
 
-  pub times-lawful : (n : ℕ) → Lawful (times c n) (λ xs. (length xs ≡ n) × All F xs)
+  pub times-lawful : (n : ℕ) → Lawful (times c n) (λ xs. (length xs ≡ n) × AllByRecursion F xs)
   times-lawful n = record { reads = times-reads n; wrote = times-wrote n }
 
 -- a count and as many values

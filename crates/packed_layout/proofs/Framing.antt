@@ -1,6 +1,6 @@
 -- Lists of packed records, over payloads that hold to their layouts.
 use Rattle.std.proofs.Common.{◌≡◌, ℕ, zero, suc, ◌+◌, ◌^◌, ◌<◌, ◌≤◌, eqb, leb, List, [], ◌∷◌, ◌++◌, length, Some, None, Ok, Err, Option, Result, sym, refl, ap, ◌∙◌, subst, add-zero, add_assoc, arith}
-use Rattle.std.specs.List.{AllByRecursion as All}
+use Rattle.std.specs.List.{AllByRecursion}
 use Rattle.std.proofs.lemmas.List.{append-nil, append_assoc, length-append}
 use Rattle.std.proofs.lemmas.Bool.{le-leb, leb-true, eqb-true, eq-eqb}
 use Rattle.packed_layout.specs.declared.faults.RecordFault.{RecordFault}
@@ -124,7 +124,7 @@ module _ {A : Type 0} (K : Kinds A) {Fit : A → Type 0} (L : KindsLawful K Fit)
     read_ok (b ∷ bs) r fuel offset some e = rw (e, read_records)
 
     -- records that fit are read one by one, and what stands behind them is read after them
-    after-records : (xs : List A) (rest : List ℕ) (q : Read E) (fuel offset : ℕ) → All Fit xs → length (pack_all K xs ++ rest) ≤ fuel → ((fuel : ℕ) → length rest ≤ fuel → read_records K entry fuel (offset + length (pack_all K xs)) rest ≡ q) → read_records K entry fuel offset (pack_all K xs ++ rest) ≡ also_all (entries_at K entry offset xs) q
+    after-records : (xs : List A) (rest : List ℕ) (q : Read E) (fuel offset : ℕ) → AllByRecursion Fit xs → length (pack_all K xs ++ rest) ≤ fuel → ((fuel : ℕ) → length rest ≤ fuel → read_records K entry fuel (offset + length (pack_all K xs)) rest ≡ q) → read_records K entry fuel offset (pack_all K xs ++ rest) ≡ also_all (entries_at K entry offset xs) q
     unfolding also_all
     after-records [] rest q fuel offset f l after = rw add-zero at (after fuel l)
     after-records (x ∷ xs) rest q zero offset f l after = absurd (omega arith)

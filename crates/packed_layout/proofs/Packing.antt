@@ -1,6 +1,6 @@
 -- The codecs of a row are lawful.
 use Rattle.std.proofs.Common.{◌≡◌, ℕ, ◌^◌, ◌<◌, ◌≤◌, Bool, true, false, ◌||◌, eqb, leb, List, length, Some, None, Option, sym, refl, ap, ◌∙◌, subst, arith, lit<, lit≤}
-use Rattle.std.specs.List.{AllByRecursion as All}
+use Rattle.std.specs.List.{AllByRecursion}
 use Rattle.std.proofs.lemmas.List.{nil_from_length}
 use Rattle.std.proofs.lemmas.Bool.{eqb-true, eqb-false, ne_eqb, le-leb, leb-true, and_parts}
 use Rattle.std.proofs.lemmas.Bool.Decides.{nat_tests}
@@ -107,7 +107,7 @@ abbrev HeadFits : Head → Type 0
 HeadFits (number, (sort, (flags, (exports, (mark, (id, stable_id)))))) = (number < 256 ^ 2) × (Unit {0} × (Unit {0} × (Unit {0} × ((mark < 256 ^ 8) × (Name id × Name stable_id)))))
 
 abbrev RecordsFit : List ImportRecord → Type 0
-RecordsFit records = ((0 ≤ length records) × (length records ≤ 1024)) × All (λ (e : ImportRecord). Resolved e.target) records
+RecordsFit records = ((0 ≤ length records) × (length records ≤ 1024)) × AllByRecursion (λ (e : ImportRecord). Resolved e.target) records
 
 abbrev PairFits : ℕ × Row → Type 0
 PairFits p = HeadFits (head_of p) × RecordsFit p.1.records

@@ -1,6 +1,6 @@
 -- Codecs: how a value is written as bytes, and how it is read from the front of bytes. A layout is put together from these.
 use Rattle.std.specs.Prelude.{ℕ, zero, suc, ◌+◌, ◌*◌, ◌/◌, ◌%◌, ◌<◌, Bool, true, false, ◌&&◌, List, [], ◌∷◌, ◌++◌, length, take, drop, Some, None, Option, ◌==◌, nat_le}
-use Rattle.std.specs.List.{AllByRecursion as All}
+use Rattle.std.specs.List.{AllByRecursion}
 
 -- `read` gives the value and the bytes after it, or `None` where no value stands at the front
 pub record Codec (A : Type 0) : Type 0 where
@@ -93,4 +93,4 @@ read_whole c s = bind (c.read s) alone
 
 -- bytes, among lists of numbers
 abbrev pub Bytes : List ℕ → Type 0
-Bytes s = All (λ b. b < 256) s
+Bytes s = AllByRecursion (λ b. b < 256) s

@@ -1,6 +1,6 @@
 -- The reader accepts exactly what the layout packs.
 use Rattle.std.specs.Prelude.{◌≡◌, ℕ, ◌^◌, ◌<◌, ◌≤◌, List, [], length, Some, None, Option}
-use Rattle.std.specs.List.{AllByRecursion as All}
+use Rattle.std.specs.List.{AllByRecursion}
 use Rattle.rows.specs.declared.Sort.TheVariants.{External}
 use Rattle.rows.specs.declared.ExportsKind.{ExportsKind}
 use Rattle.rows.specs.declared.ImportRecord.{ImportRecord}
@@ -35,7 +35,7 @@ pub record Fits (number : ℕ) (r : Row) : Type 0 where
   pub id : Name r.id
   pub stable_id : Name r.stable_id
   pub count : length r.records ≤ 1024
-  pub each : All (λ (e : ImportRecord). Resolved e.target) r.records
+  pub each : AllByRecursion (λ (e : ImportRecord). Resolved e.target) r.records
   pub external : r.sort ≡ External → Bare r
 
 abbrev pub FitsPair : ℕ × Row → Type 0

@@ -1,6 +1,6 @@
 -- Packed records: payloads of some kinds, each behind its length and its kind, one after another.
 use Rattle.std.specs.Prelude.{◌≡◌, ℕ, zero, suc, ◌+◌, ◌<◌, ◌≤◌, ◌≢◌, ◌⊎◌, List, [], ◌∷◌, ◌++◌, length, take, drop, Some, None, Ok, Err, Option, Result, ◌==◌, nat_le}
-use Rattle.std.specs.List.{AllByRecursion as All}
+use Rattle.std.specs.List.{AllByRecursion}
 use Rattle.packed_layout.specs.declared.faults.FaultAt.{FaultAt}
 use Rattle.packed_layout.specs.declared.faults.RecordFault.{RecordFault}
 use Rattle.packed_layout.specs.declared.faults.RecordFault.TheVariants.{EndsInside, UnknownKind, BrokenLayout}
@@ -82,19 +82,19 @@ module _ {A E : Type 0} (K : Kinds A) (entry : ℕ → A → E) (Fit : A → Typ
   pub record Made (offset : ℕ) (s : List ℕ) (es : List E) (xs : List A) : Type 0 where
     pub packed : pack_all K xs ≡ s
     pub placed : entries_at K entry offset xs ≡ es
-    pub fit : All Fit xs
+    pub fit : AllByRecursion Fit xs
 
   -- from an offset on, s is the records of xs, and then what the reader of one record refuses
   pub record Broken (offset : ℕ) (s : List ℕ) (n : RecordFault) (o : ℕ) (xs : List A) (rest : List ℕ) : Type 0 where
     pub split : pack_all K xs ++ rest ≡ s
-    pub fit : All Fit xs
+    pub fit : AllByRecursion Fit xs
     pub place : offset + length (pack_all K xs) ≡ o
     pub some : 1 ≤ length rest
     pub refused : read_record K rest ≡ Err n
 
   -- what is packed is read back
   abbrev pub ListIsRead : Type 0
-  ListIsRead = (xs : List A) → All Fit xs → read_list K entry (pack_all K xs) ≡ entries (entries_at K entry 0 xs)
+  ListIsRead = (xs : List A) → AllByRecursion Fit xs → read_list K entry (pack_all K xs) ≡ entries (entries_at K entry 0 xs)
 
   -- what is read was packed
   abbrev pub ListWasPacked : Type 0

@@ -1,6 +1,6 @@
 -- The test of a row passes exactly what fits the layout.
 use Rattle.std.proofs.Common.{◌≡◌, ℕ, ◌+◌, ◌<◌, ◌≤◌, true, false, ◌&&◌, leb, List, [], ◌∷◌, length, get_or, drop, Some, None, Option, sym, refl, ap, ◌∙◌}
-use Rattle.std.specs.List.{AllByRecursion as All}
+use Rattle.std.specs.List.{AllByRecursion}
 use Rattle.std.proofs.lemmas.List.{at_drop_more, at_drop_all}
 use Rattle.std.proofs.lemmas.Bool.{ltb-true, lt-ltb, le-leb, and_parts, and_from}
 use Rattle.rows.specs.declared.ImportRecord.{ImportRecord}
@@ -34,11 +34,11 @@ resolved-back : (t : Option ℕ) → Resolved t → resolved? t ≡ true
 resolved-back None h = refl
 resolved-back (Some r) h = lt-ltb r 65535 h
 
-each-there : (es : List ImportRecord) → all_resolved? es ≡ true → All (λ (e : ImportRecord). Resolved e.target) es
+each-there : (es : List ImportRecord) → all_resolved? es ≡ true → AllByRecursion (λ (e : ImportRecord). Resolved e.target) es
 each-there [] e = tt
 each-there (x ∷ xs) e = let b = and_parts (resolved? x.target) (all_resolved? xs) e in (resolved-there x.target b.0, each-there xs b.1)
 
-each_back : (es : List ImportRecord) → All (λ (e : ImportRecord). Resolved e.target) es → all_resolved? es ≡ true
+each_back : (es : List ImportRecord) → AllByRecursion (λ (e : ImportRecord). Resolved e.target) es → all_resolved? es ≡ true
 each_back [] h = refl
 each_back (x ∷ xs) h = and_from (resolved? x.target) (all_resolved? xs) (resolved-back x.target h.0) (each_back xs h.1)
 
