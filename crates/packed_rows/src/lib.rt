@@ -10,7 +10,7 @@ use packed_layout::faults::{FaultAt, RowFault};
 
 pub mod entries;
 pub mod graph;
-pub mod rows;
+pub mod list;
 
 // A list, and the offsets of its records.
 #[derive(Drop)]

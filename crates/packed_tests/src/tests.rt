@@ -2,7 +2,7 @@
 use packed::read::read_record;
 use packed_layout::faults::RowFault;
 use packed_rows::PackedRows;
-use packed_rows::rows::count_rows;
+use packed_rows::list::count_rows;
 use packer::{PackFault, Row};
 use rows::{ExportsKind, Flags, ImportKind, ImportRecord, Sort};
 use std::alloc::{AllocError, Global};

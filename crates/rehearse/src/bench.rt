@@ -2,7 +2,7 @@
 use crate::show::row_text;
 use packed_layout::faults::RowFault;
 use packed_rows::PackedRows;
-use packed_rows::rows::count_rows;
+use packed_rows::list::count_rows;
 use packer::{PackFault, Row};
 use script::call::{Call, RowLine};
 use std::alloc::{AllocError, Global};

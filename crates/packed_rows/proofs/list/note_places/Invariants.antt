@@ -1,6 +1,6 @@
 use Rattle.std.proofs.Common.{◌≡◌, ◌-◌, length, vec_items, vec_capacity}
 use Rattle.packed_rows.proofs.Opening.{Noting}
-use Rattle.packed_rows.proofs.rows.note_places.Given as goal
+use Rattle.packed_rows.proofs.list.note_places.Given as goal
 
 -- the places are the offsets of what is read so far, and have the room that they had
 abbrev pub invariant-loop-next : goal.invariant-loop-next

@@ -3,7 +3,7 @@ use Rattle.std.proofs.lemmas.Result.{err_from_is_err_and}
 use Rattle.packed_rows.specs.Opened.{Noted}
 use Rattle.packed.proofs.Reading.{further, shown-at}
 use Rattle.packed_rows.proofs.Opening.{noting-start, noting-turn, noting-done, noting-broken, noting-short}
-use Rattle.packed_rows.proofs.rows.note_places.Goals as goal
+use Rattle.packed_rows.proofs.list.note_places.Goals as goal
 
 pub loop-next-init : goal.loop-next-init
 loop-next-init c = (noting-start _ c.args.bytes.now c.clear.ensures.items, refl)

@@ -1,6 +1,6 @@
 use Rattle.std.proofs.Common.{◌-◌, length}
 use Rattle.packed_rows.proofs.Counting.{Counted}
-use Rattle.packed_rows.proofs.rows.count_rows.Given as goal
+use Rattle.packed_rows.proofs.list.count_rows.Given as goal
 
 -- so many entries are read, and the next record is at the offset
 abbrev pub invariant-loop-next : goal.invariant-loop-next

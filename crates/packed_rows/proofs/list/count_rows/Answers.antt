@@ -2,7 +2,7 @@ use Rattle.std.proofs.Common.{◌<◌, length, Err, ap, ◌∙◌, arith}
 use Rattle.std.proofs.lemmas.Result.{err_from_is_err_and}
 use Rattle.packed.proofs.Reading.{further, shown-at}
 use Rattle.packed_rows.proofs.Counting.{counted_start, counted-turn, counted-few, counted-done, counted-broken}
-use Rattle.packed_rows.proofs.rows.count_rows.Goals as goal
+use Rattle.packed_rows.proofs.list.count_rows.Goals as goal
 
 pub loop-next-init : goal.loop-next-init
 loop-next-init c = counted_start c.args.bytes.now
