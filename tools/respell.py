@@ -5,7 +5,7 @@ usage: python3 tools/respell.py        at the top of the repository, once, after
 
 A word is in snake case (`readWhole` becomes `read_whole`), a fact or a type in upper camel case
 (`Packing-is-exact` becomes `PackingIsExact`). A dash between the names that a lemma is about stays.
-Names of src/ stay: none of them has a capital after a small letter, or a dash.
+Names of functions and types of src/ stay: none of them has a capital after a small letter, or a dash. A ghost member does change.
 It goes over .antt and .rt files, must-fail edits and the pages (there only names in backquotes that the sources have).
 It stops with nothing written where two names would fall together in one file.
 """
@@ -53,7 +53,6 @@ def clashes(path, text):
         # a function of src/ may stand beside the word of its own name
         if len(old) > 1 and new not in APART and not (path.endswith((".rt", ".edit")) and f"fn {new}" in text):
             yield f"{path}: {', '.join(old)} would all be {new}"
-
 
 
 def main():

@@ -3,6 +3,7 @@ use Rattle.std.specs.Prelude.{◌≡◌, ℕ, ◌<◌, Bool, true, false, cond, 
 use Rattle.std.proofs.lemmas.Bool.{and_parts, ltb-true}
 use Rattle.cells.specs.Cells.{in_cells}
 
+-- what is held only under a test passes it
 some-only-if : (b : Bool) (o : Option ℕ) → is_some (cond b o None) ≡ true → b ≡ true
 some-only-if true o some = refl
 some-only-if false o some = some

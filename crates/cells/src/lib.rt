@@ -1,7 +1,7 @@
 // A store that has a cell for each pair of a tablet and a row.
 #![tactic(auto)]
 
-ghost use Rattle.std.specs.Prelude.{◌≡◌, ℕ, ◌<◌, ◌≤◌, min, IfOk, vec_len};
+ghost use Rattle.std.specs.Prelude.{◌≡◌, ◌<◌, ◌≤◌, min, IfOk, vec_len};
 ghost use Rattle.holdings.specs.Maps.{rank, nothing, changed, size, takes};
 ghost use Rattle.cells.specs.Cells.{in_cells};
 ghost use Rattle.std.proofs.Common.{subst};

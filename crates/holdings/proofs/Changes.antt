@@ -28,7 +28,7 @@ changed-other m t r o u v apart =
     (λ p. changed-tablet m t r o u v p)
     (cases_eq u t)
 
--- a pair that comes before
+-- a pair that comes before is left as it was
 pub changed-before : (m : Map) (t r : ℕ) (o : Option ℕ) (u v : ℕ) → rank u v < rank t r → changed m t r o u v ≡ m u v
 changed-before m t r o u v less = changed-other m t r o u v (λ e. omega arith)
 

@@ -1,5 +1,5 @@
 -- A list of rows that is put into a store, at once and one by one.
-use Rattle.std.specs.Prelude.{◌≡◌, ℕ, ◌+◌, ◌<◌, Bool, true, false, cond, not, ◌&&◌, ◌||◌, ltb, List, [], ◌∷◌, is_some, Some, fold, count_by, ◌==◌, nat_lt, slice_index}
+use Rattle.std.specs.Prelude.{◌≡◌, ℕ, ◌+◌, ◌<◌, Bool, true, false, cond, not, ◌&&◌, ◌||◌, List, [], ◌∷◌, is_some, Some, fold, count_by, ◌==◌, nat_lt, slice_index}
 use Rattle.rows.specs.Numbers.{member}
 use Rattle.std.specs.List.{list_all}
 use Rattle.holdings.specs.Maps.{Map, put, size, takes}
@@ -26,7 +26,7 @@ full_for most m tablet rows = nat_lt most (size m + absent m tablet rows)
 
 -- whether each row is at most 4,095
 abbrev pub rows_in_range : List ℕ → Bool
-rows_in_range rows = list_all (λ row. ltb row 4096) rows
+rows_in_range rows = list_all (λ row. nat_lt row 4096) rows
 
 -- whether a store that holds at most `most` pairs takes all of these rows
 abbrev pub takes_all : ℕ → Map → ℕ → List ℕ → Bool

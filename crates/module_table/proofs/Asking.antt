@@ -5,7 +5,7 @@ use Rattle.std.proofs.lemmas.List.{at_drop_more, take_more, get_or-set_same, get
 use Rattle.std.proofs.lemmas.Bool.{cases_eq, eq-eqb, ne_eqb, eqb-true, or_right}
 use Rattle.rows.specs.Numbers.{any, member}
 use Rattle.rows.specs.Rows.{Row}
-use Rattle.rows.proofs.Tests.{both, all_of, is_true, is_false, from-true, from_false, any_at, at-any}
+use Rattle.rows.proofs.Tests.{both, from-both, is_true, is_false, from-true, from_false, any_at, at-any}
 use Rattle.packed_layout.specs.Layout.{Entry}
 use Rattle.project.specs.Rescan.{merged, rows_fault, numbers, unasked}
 use Rattle.module_table.specs.Drafts.{blank, places_by}
@@ -81,7 +81,7 @@ module _ (held : ℕ) (places : List (Option ℕ)) (touched : List ℕ) (table :
   not-marked k l has none =
       let low : k < length table = omega arith in
       let there : T (member k (numbers es)) = from-true (sym (is-listed k) ∙ has) in
-      let some = any_at (λ n. ltb n (length table) && not (member n touched)) (numbers es) k there (all_of (ltb k (length table)) (not (member k touched)) (lt→ltb k (length table) low) (from_false none)) in
+      let some = any_at (λ n. ltb n (length table) && not (member n touched)) (numbers es) k there (from-both (ltb k (length table)) (not (member k touched)) (lt→ltb k (length table) low) (from_false none)) in
       ap (λ b. b || (any (λ t. not (member t (numbers es))) touched || (eqb (length touched) 0 && not (eqb (length (numbers es)) 0)))) (is_true (any (λ n. ltb n (length table) && not (member n touched)) (numbers es)) some)
 
   -- all touched rows have a place, and no other row of the table

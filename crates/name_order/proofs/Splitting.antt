@@ -50,5 +50,5 @@ module _ (key : ℕ → List ℕ) where
       ∙ sym (cond-false _ _ _ (before-asym (key q) (key r) (s.0 0 (omega arith))))
 
   -- the name that was read at a place
-  pub read_at : (xs : List ℕ) (mid row : ℕ) (here : List ℕ) → row ≡ get_or xs mid row → mid < length xs → here ≡ key row → here ≡ key (get_or xs mid 0)
-  read_at xs mid row here e lt h = h ∙ ap key (get_or_read xs mid row lt e 0)
+  pub read-at : (xs : List ℕ) (mid row : ℕ) (here : List ℕ) → row ≡ get_or xs mid row → mid < length xs → here ≡ key row → here ≡ key (get_or xs mid 0)
+  read-at xs mid row here e lt h = h ∙ ap key (get_or_read xs mid row lt e 0)

@@ -7,7 +7,7 @@ use Rattle.packed_layout.specs.declared.faults.RecordFault.{RecordFault}
 use Rattle.packed_layout.specs.declared.faults.RecordFault.TheVariants.{EndsInside, UnknownKind, BrokenLayout}
 use Rattle.packed_layout.specs.declared.faults.FaultAt.{FaultAt}
 use Rattle.packed_layout.specs.Codec.{when, text, number}
-use Rattle.packed_layout.specs.Records.{Kinds, header, read_record}
+use Rattle.packed_layout.specs.Records.{Kinds, header, first_record}
 use Rattle.packed_layout.specs.Layout.{Entry, entry, rows}
 use Rattle.packed.specs.Views.{placed, read_at}
 use Rattle.packed_layout.proofs.Codecs.{when-some, bind-some, some_inj}
@@ -44,7 +44,7 @@ pub record Taken (s : List ℕ) (size : ℕ) (rest : List ℕ) : Type 0 where
   pub some : 6 ≤ size
   pub follows : Follows size s rest
 
-pub record-taken : {A : Type 0} (K : Kinds A) (s : List ℕ) (r : A × ℕ × List ℕ) → read_record K s ≡ Ok r → Taken s r.1 r.2
+pub record-taken : {A : Type 0} (K : Kinds A) (s : List ℕ) (r : A × ℕ × List ℕ) → first_record K s ≡ Ok r → Taken s r.1 r.2
 record-taken {A} K s r e =
     passed (header.read s) EndsInside _ r e λ x head e1.
     passed ((text x.0.0).read x.1) EndsInside _ r e1 λ p body e2.
@@ -53,14 +53,14 @@ record-taken {A} K s r e =
     passed (read payload) BrokenLayout _ r e4 λ a is e5.
     subst (λ (q : A × ℕ × List ℕ). Taken s q.1 q.2) (ok-inj e5) (record { some = omega arith; follows = joins 6 x.0.0 s x.1 p.1 (header-follows s x head) (text-follows x.0.0 x.1 p body) })
 
-pub at_here : (s : List ℕ) (offset : ℕ) (r : Result ((ℕ × Row) × ℕ × List ℕ) RecordFault) → offset < length s → r ≡ read_record rows (take (length s - offset) (drop offset s)) → placed offset r ≡ read_at s offset
+pub at_here : (s : List ℕ) (offset : ℕ) (r : Result ((ℕ × Row) × ℕ × List ℕ) RecordFault) → offset < length s → r ≡ first_record rows (take (length s - offset) (drop offset s)) → placed offset r ≡ read_at s offset
 at_here s offset r h e =
-    ap (placed offset) (e ∙ ap (read_record rows) (take_rest s offset)) ∙ sym (cond-false (leb (length s) offset) (Ok None) (placed offset (read_record rows (drop offset s))) (lt-leb (length s) offset h))
+    ap (placed offset) (e ∙ ap (first_record rows) (take_rest s offset)) ∙ sym (cond-false (leb (length s) offset) (Ok None) (placed offset (first_record rows (drop offset s))) (lt-leb (length s) offset h))
 
 -- the sum of an offset and the size of the record there
-pub next_fits : (s : List ℕ) (offset : ℕ) (r : (ℕ × Row) × ℕ × List ℕ) → offset < length s → Ok r ≡ read_record rows (take (length s - offset) (drop offset s)) → offset + r.1 ≤ length s
+pub next_fits : (s : List ℕ) (offset : ℕ) (r : (ℕ × Row) × ℕ × List ℕ) → offset < length s → Ok r ≡ first_record rows (take (length s - offset) (drop offset s)) → offset + r.1 ≤ length s
 next_fits s offset r h e =
-    let t = record-taken rows (drop offset s) r (sym (e ∙ ap (read_record rows) (take_rest s offset))) in
+    let t = record-taken rows (drop offset s) r (sym (e ∙ ap (first_record rows) (take_rest s offset))) in
     let w : r.1 ≤ length (drop offset s) = t.follows.within in
     omega (arith, length-drop offset s)
 
@@ -75,22 +75,22 @@ cases-le m n = ⊎_elim (λ (h : n < m). inr h) (λ (h : m ≤ n). inl h) (cases
 
 -- what is read at an offset, by the record there
 pub past : (s : List ℕ) (offset : ℕ) → length s ≤ offset → read_at s offset ≡ Ok None
-past s offset h = cond-true (leb (length s) offset) (Ok None) (placed offset (read_record rows (drop offset s))) (le-leb (length s) offset h)
+past s offset h = cond-true (leb (length s) offset) (Ok None) (placed offset (first_record rows (drop offset s))) (le-leb (length s) offset h)
 
-within : (s : List ℕ) (offset : ℕ) → offset < length s → read_at s offset ≡ placed offset (read_record rows (drop offset s))
-within s offset h = cond-false (leb (length s) offset) (Ok None) (placed offset (read_record rows (drop offset s))) (lt-leb (length s) offset h)
+within : (s : List ℕ) (offset : ℕ) → offset < length s → read_at s offset ≡ placed offset (first_record rows (drop offset s))
+within s offset h = cond-false (leb (length s) offset) (Ok None) (placed offset (first_record rows (drop offset s))) (lt-leb (length s) offset h)
 
 -- a record that is read at an offset
 pub record Here (s : List ℕ) (offset : ℕ) (e : Entry) (next : ℕ) : Type 0 where
   pub inside : offset < length s
   pub value : ℕ × Row
   pub size : ℕ
-  pub is : read_record rows (drop offset s) ≡ Ok (value, size, drop next s)
+  pub is : first_record rows (drop offset s) ≡ Ok (value, size, drop next s)
   pub entry-is : entry offset value ≡ e
   pub next-is : offset + size ≡ next
   pub some : 6 ≤ size
 
-here-by : (s : List ℕ) (offset : ℕ) (e : Entry) (next : ℕ) → offset < length s → (r : Result ((ℕ × Row) × ℕ × List ℕ) RecordFault) → read_record rows (drop offset s) ≡ r → placed offset r ≡ Ok (Some (e, next)) → Here s offset e next
+here-by : (s : List ℕ) (offset : ℕ) (e : Entry) (next : ℕ) → offset < length s → (r : Result ((ℕ × Row) × ℕ × List ℕ) RecordFault) → first_record rows (drop offset s) ≡ r → placed offset r ≡ Ok (Some (e, next)) → Here s offset e next
 here-by s offset e next h (Err fault) q p = absurd (ok-err (Some (e, next)) (record { fault = fault; offset = offset }) (sym p))
 here-by s offset e next h (Ok r) q p =
     let t = record-taken rows (drop offset s) r q in
@@ -102,16 +102,16 @@ here-by s offset e next h (Ok r) q p =
 pub here : (s : List ℕ) (offset : ℕ) (e : Entry) (next : ℕ) → Ok (Some (e, next)) ≡ read_at s offset → Here s offset e next
 here s offset e next p =
     ⊎_elim (λ (h : length s ≤ offset). absurd (some-none (e, next) (p ∙ past s offset h)))
-    (λ (h : offset < length s). here-by s offset e next h (read_record rows (drop offset s)) refl (sym (p ∙ within s offset h)))
+    (λ (h : offset < length s). here-by s offset e next h (first_record rows (drop offset s)) refl (sym (p ∙ within s offset h)))
     (cases-le (length s) offset)
 
 -- a record that is refused at an offset
 pub record Fault (s : List ℕ) (offset : ℕ) (a : FaultAt) : Type 0 where
   pub inside : offset < length s
-  pub is : read_record rows (drop offset s) ≡ Err a.fault
+  pub is : first_record rows (drop offset s) ≡ Err a.fault
   pub at-is : record { fault = a.fault; offset = offset } ≡ a
 
-fault-by : (s : List ℕ) (offset : ℕ) (a : FaultAt) → offset < length s → (r : Result ((ℕ × Row) × ℕ × List ℕ) RecordFault) → read_record rows (drop offset s) ≡ r → placed offset r ≡ Err a → Fault s offset a
+fault-by : (s : List ℕ) (offset : ℕ) (a : FaultAt) → offset < length s → (r : Result ((ℕ × Row) × ℕ × List ℕ) RecordFault) → first_record rows (drop offset s) ≡ r → placed offset r ≡ Err a → Fault s offset a
 fault-by s offset a h (Ok r) q p = absurd (ok-err (Some (entry offset r.0, offset + r.1)) a p)
 fault-by s offset a h (Err fault) q p =
     let same : record { fault = fault; offset = offset } ≡ a = cc in
@@ -121,7 +121,7 @@ fault-by s offset a h (Err fault) q p =
 pub fault : (s : List ℕ) (offset : ℕ) (a : FaultAt) → Err a ≡ read_at s offset → Fault s offset a
 fault s offset a p =
     ⊎_elim (λ (h : length s ≤ offset). absurd (ok-err None a (sym (p ∙ past s offset h))))
-    (λ (h : offset < length s). fault-by s offset a h (read_record rows (drop offset s)) refl (sym (p ∙ within s offset h)))
+    (λ (h : offset < length s). fault-by s offset a h (first_record rows (drop offset s)) refl (sym (p ∙ within s offset h)))
     (cases-le (length s) offset)
 
 end_by : (s : List ℕ) (offset : ℕ) (r : Result ((ℕ × Row) × ℕ × List ℕ) RecordFault) → placed offset r ≡ Ok None → length s ≤ offset
@@ -132,5 +132,5 @@ end_by s offset (Err fault) p = absurd (ok-err None (record { fault = fault; off
 pub at-end : (s : List ℕ) (offset : ℕ) → Ok None ≡ read_at s offset → length s ≤ offset
 at-end s offset p =
     ⊎_elim (λ (h : length s ≤ offset). h)
-    (λ (h : offset < length s). end_by s offset (read_record rows (drop offset s)) (sym (p ∙ within s offset h)))
+    (λ (h : offset < length s). end_by s offset (first_record rows (drop offset s)) (sym (p ∙ within s offset h)))
     (cases-le (length s) offset)

@@ -4,7 +4,7 @@ use Rattle.std.proofs.lemmas.List.{drop_all, length_push}
 use Rattle.rows.specs.Rows.{Row}
 use Rattle.packed_layout.specs.declared.faults.RecordFault.{RecordFault}
 use Rattle.packed_layout.specs.declared.faults.FaultAt.{FaultAt}
-use Rattle.packed_layout.specs.Records.{Read, entries, broken, broken_at, also, read_record, read_records}
+use Rattle.packed_layout.specs.Records.{Read, entries, broken, broken_at, also, first_record, read_records}
 use Rattle.packed_layout.specs.Layout.{Entry, entry, rows, read_all}
 use Rattle.packed.specs.declared.view.RowView.{RowView}
 use Rattle.packed.specs.Views.{read_at, shown_at}
@@ -35,11 +35,11 @@ also_all-broken (x ∷ es) a = ap (also x) (also_all-broken es a)
 abbrev step : ℕ → ℕ → Result ((ℕ × Row) × ℕ × List ℕ) RecordFault → Read Entry
 step n offset r = elim r [ Err fault ↦ broken_at fault offset | Ok x ↦ also (entry offset x.0) (read_records rows entry n (offset + x.1) x.2) ]
 
-stepped : (n offset : ℕ) (t : List ℕ) → 0 < length t → read_records rows entry (suc n) offset t ≡ step n offset (read_record rows t)
+stepped : (n offset : ℕ) (t : List ℕ) → 0 < length t → read_records rows entry (suc n) offset t ≡ step n offset (first_record rows t)
 stepped n offset [] h = absurd (omega arith)
 stepped n offset (b ∷ bs) h = refl
 
-stepped-at : (n : ℕ) (s : List ℕ) (offset : ℕ) → offset < length s → from (suc n) s offset ≡ step n offset (read_record rows (drop offset s))
+stepped-at : (n : ℕ) (s : List ℕ) (offset : ℕ) → offset < length s → from (suc n) s offset ≡ step n offset (first_record rows (drop offset s))
 stepped-at n s offset h = stepped n offset (drop offset s) (omega (arith, length-drop offset s))
 
 pub from_some : (n : ℕ) (s : List ℕ) (offset : ℕ) (e : Entry) (next : ℕ) → Ok (Some (e, next)) ≡ read_at s offset → from (suc n) s offset ≡ also e (from n s next)

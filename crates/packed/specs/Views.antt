@@ -10,7 +10,7 @@ use Rattle.packed.specs.declared.fields.Header.{Header}
 use Rattle.packed.specs.declared.view.RowHead.{RowHead}
 use Rattle.packed.specs.declared.view.RowView.{RowView}
 use Rattle.packed_layout.specs.Codec.{bind, text, times, read_times, read_whole}
-use Rattle.packed_layout.specs.Records.{header, read_record}
+use Rattle.packed_layout.specs.Records.{header, first_record}
 use Rattle.packed_layout.specs.Layout.{Head, head, count, Entry, entry, import_record, row_of, rows}
 
 -- a value and the bytes after it
@@ -84,4 +84,4 @@ placed offset (Err fault) = Err (record { fault = fault; offset = offset })
 
 -- the record at an offset, and where the next one begins; nothing at the end of the bytes
 abbrev pub read_at : List ℕ → ℕ → Result (Option (Entry × ℕ)) FaultAt
-read_at s offset = cond (nat_le (length s) offset) (Ok None) (placed offset (read_record rows (drop offset s)))
+read_at s offset = cond (nat_le (length s) offset) (Ok None) (placed offset (first_record rows (drop offset s)))

@@ -2,7 +2,7 @@
 ghost use Rattle.std.specs.Prelude.{◌≡◌, is_some};
 ghost use Rattle.packed_layout.specs.Codec.{number, find, times, read_whole};
 ghost use Rattle.packed_layout.specs.Records.{header};
-ghost use Rattle.packed_layout.specs.Layout.{name, sort, flags, flags_of, exports_kind, import_kind, import_record, target_of, count, sort_code, sorts, exports_code, exports_kinds, kind_code, import_kinds};
+ghost use Rattle.packed_layout.specs.Layout.{name, sort, flags, flags_of, exports_kind, import_record, target_of, count, sort_code, sorts, exports_code, exports_kinds, kind_code, import_kinds};
 ghost use Rattle.packed.specs.Views.{taken, cut, heading};
 
 use rows::{ExportsKind, Flags, ImportKind, ImportRecord, Sort};

@@ -3,7 +3,7 @@ ghost use Rattle.std.specs.Prelude.{◌≡◌, ◌||◌};
 ghost use Rattle.std.specs.Option.{option_map};
 ghost use Rattle.rows.specs.Rows.{is_normal_sort};
 ghost use Rattle.packed_layout.specs.Codec.{read_whole};
-ghost use Rattle.packed_layout.specs.Records.{read_record};
+ghost use Rattle.packed_layout.specs.Records.{first_record};
 ghost use Rattle.packed_layout.specs.Layout.{head, bare, row, rows};
 ghost use Rattle.packed.specs.Views.{headed, outlined, outline, outline_first, outline_at, shown, shown_first, shown_at, read_at, Whole, WholeFirst, WholeAt};
 
@@ -94,7 +94,7 @@ fn read_row(payload: &[u8]) -> Option<RowView<'_>>
 
 // The record that the bytes begin with: its row, how many bytes it takes, and the bytes after it.
 fn first_record(bytes: &[u8]) -> Result<(RowView<'_>, usize, &[u8]), RecordFault>
-    ensures shown { shown_first result ≡ read_record rows bytes.now }
+    ensures shown { shown_first result ≡ first_record rows bytes.now }
     ensures whole { WholeFirst result }
 {
     let (header, rest) = take_header(bytes).ok_or(RecordFault::EndsInside)?;

@@ -6,7 +6,7 @@ use Rattle.std.proofs.lemmas.Bool.{le-leb, leb-true, eqb-true, eq-eqb}
 use Rattle.packed_layout.specs.declared.faults.RecordFault.{RecordFault}
 use Rattle.packed_layout.specs.declared.faults.RecordFault.TheVariants.{EndsInside, UnknownKind, BrokenLayout}
 use Rattle.packed_layout.specs.Codec.{Codec, when, bind, text, read_whole, Bytes}
-use Rattle.packed_layout.specs.Records.{Kinds, only, header, pack, pack_all, or_refuse, read_record, Read, entries, broken, broken_at, also, read_records, entries_at, Made, Broken, ListIsRead, ListWasPacked, ListIsRefused, ListWasRefused}
+use Rattle.packed_layout.specs.Records.{Kinds, only, header, pack, pack_all, or_refuse, first_record, Read, entries, broken, broken_at, also, read_records, entries_at, Made, Broken, ListIsRead, ListWasPacked, ListIsRefused, ListWasRefused}
 use Rattle.packed_layout.proofs.Codecs.{Lawful, when-some, bind-some, bytes-first, bytes_rest, text-reads, text-wrote, number-lawful, then-lawful, whole-reads, whole-wrote}
 
 abbrev read_kind : {A : Type 0} → Kinds A → ℕ → List ℕ → Option A
@@ -51,7 +51,7 @@ module _ {A : Type 0} (K : Kinds A) {Fit : A → Type 0} (L : KindsLawful K Fit)
   pub length-pack : (a : A) → length (pack K a) ≡ 6 + length (K.write a)
   length-pack a = omega arith
 
-  pub record-reads : (a : A) (rest : List ℕ) → Fit a → read_record K (pack K a ++ rest) ≡ Ok (a, 6 + length (K.write a), rest)
+  pub record-reads : (a : A) (rest : List ℕ) → Fit a → first_record K (pack K a ++ rest) ≡ Ok (a, 6 + length (K.write a), rest)
   record-reads a rest f =
       let size = length (K.write a) in
       let short = L.short a f in
@@ -64,7 +64,7 @@ module _ {A : Type 0} (K : Kinds A) {Fit : A → Type 0} (L : KindsLawful K Fit)
     pub size : r.1 ≡ length (pack K r.0)
     pub fits : Fit r.0
 
-  pub record-wrote : (s : List ℕ) (r : A × ℕ × List ℕ) → Bytes s → read_record K s ≡ Ok r → Packed s r
+  pub record-wrote : (s : List ℕ) (r : A × ℕ × List ℕ) → Bytes s → first_record K s ≡ Ok r → Packed s r
   record-wrote s r h e =
       passed (header.read s) EndsInside _ r e λ x head e1.
       passed ((text x.0.0).read x.1) EndsInside _ r e1 λ p body e2.
@@ -94,12 +94,12 @@ module _ {A : Type 0} (K : Kinds A) {Fit : A → Type 0} (L : KindsLawful K Fit)
     told zero offset [] l h = ([], record { packed = refl; placed = refl; fit = tt })
     told zero offset (b ∷ bs) l h = absurd (omega arith)
     told (suc fuel) offset [] l h = ([], record { packed = refl; placed = refl; fit = tt })
-    told (suc fuel) offset (b ∷ bs) l h = go (told fuel) (read_record K (b ∷ bs)) refl
+    told (suc fuel) offset (b ∷ bs) l h = go (told fuel) (first_record K (b ∷ bs)) refl
       where
         s : List ℕ
         s = b ∷ bs
 
-        go : ((offset : ℕ) (s : List ℕ) → length s ≤ fuel → Bytes s → Told offset s (read_records K entry fuel offset s)) → (r : Result (A × ℕ × List ℕ) RecordFault) → read_record K s ≡ r → Told offset s (elim r as (λ _. Read E) [ Err n ↦ broken_at n offset | Ok r ↦ also (entry offset r.0) (read_records K entry fuel (offset + r.1) r.2) ])
+        go : ((offset : ℕ) (s : List ℕ) → length s ≤ fuel → Bytes s → Told offset s (read_records K entry fuel offset s)) → (r : Result (A × ℕ × List ℕ) RecordFault) → first_record K s ≡ r → Told offset s (elim r as (λ _. Read E) [ Err n ↦ broken_at n offset | Ok r ↦ also (entry offset r.0) (read_records K entry fuel (offset + r.1) r.2) ])
         go ih (Err n) e = ([], s, record { split = refl; fit = tt; place = add-zero offset; some = omega arith; refused = e })
         go ih (Ok r) e =
             let p = record-wrote s r h e in
@@ -119,7 +119,7 @@ module _ {A : Type 0} (K : Kinds A) {Fit : A → Type 0} (L : KindsLawful K Fit)
     also_all-broken [] n o = refl
     also_all-broken (e ∷ es) n o = rw (also_all-broken es n o)
 
-    read_ok : (s : List ℕ) (r : A × ℕ × List ℕ) (fuel offset : ℕ) → 1 ≤ length s → read_record K s ≡ Ok r → read_records K entry (suc fuel) offset s ≡ also (entry offset r.0) (read_records K entry fuel (offset + r.1) r.2)
+    read_ok : (s : List ℕ) (r : A × ℕ × List ℕ) (fuel offset : ℕ) → 1 ≤ length s → first_record K s ≡ Ok r → read_records K entry (suc fuel) offset s ≡ also (entry offset r.0) (read_records K entry fuel (offset + r.1) r.2)
     read_ok [] r fuel offset some e = absurd (omega arith)
     read_ok (b ∷ bs) r fuel offset some e = rw (e, read_records)
 
@@ -145,7 +145,7 @@ module _ {A : Type 0} (K : Kinds A) {Fit : A → Type 0} (L : KindsLawful K Fit)
         let all = after-records xs [] (entries []) (length s) 0 f (simp append-nil (omega arith)) (λ fuel _. nothing_left fuel _) in
         (simp append-nil at all) ∙ also_all-entries (entries_at K entry 0 xs)
 
-    refused-here : (rest : List ℕ) (n : RecordFault) (fuel offset : ℕ) → 1 ≤ length rest → read_record K rest ≡ Err n → length rest ≤ fuel → read_records K entry fuel offset rest ≡ broken_at n offset
+    refused-here : (rest : List ℕ) (n : RecordFault) (fuel offset : ℕ) → 1 ≤ length rest → first_record K rest ≡ Err n → length rest ≤ fuel → read_records K entry fuel offset rest ≡ broken_at n offset
     refused-here [] n fuel offset some e l = absurd (omega arith)
     refused-here (b ∷ bs) n zero offset some e l = absurd (omega arith)
     refused-here (b ∷ bs) n (suc fuel) offset some e l = rw (e, read_records)

@@ -5,7 +5,7 @@ use Rattle.std.proofs.lemmas.Bool.{le-leb, lt-leb, cases_lt}
 use Rattle.packed_layout.specs.declared.faults.RecordFault.{RecordFault}
 use Rattle.packed_layout.specs.declared.faults.RecordFault.TheVariants.{EndsInside, UnknownKind, BrokenLayout}
 use Rattle.packed_layout.specs.Codec.{when, text}
-use Rattle.packed_layout.specs.Records.{Kinds, header, pack, or_refuse, read_record, size_of, kind_of, Why, RefusedFor}
+use Rattle.packed_layout.specs.Records.{Kinds, header, pack, or_refuse, first_record, size_of, kind_of, Why, RefusedFor}
 use Rattle.packed_layout.proofs.Codecs.{never}
 use Rattle.packed_layout.proofs.Framing.{KindsLawful, record-reads}
 
@@ -34,10 +34,10 @@ or-bad n None f h e = err-inj e
 or-bad n (Some x) f h e = h x e
 
 module _ {A : Type 0} (K : Kinds A) {Fit : A → Type 0} (L : KindsLawful K Fit) where
-  none-fits : (n : RecordFault) (s : List ℕ) → read_record K s ≡ Err n → (a : A) (rest : List ℕ) → Fit a → pack K a ++ rest ≡ s → ⊥
+  none-fits : (n : RecordFault) (s : List ℕ) → first_record K s ≡ Err n → (a : A) (rest : List ℕ) → Fit a → pack K a ++ rest ≡ s → ⊥
   none-fits n s e a rest f q =
       let ok = record-reads K L a rest f in
-      let bad : read_record K (pack K a ++ rest) ≡ Err n = ap (read_record K) q ∙ e in
+      let bad : first_record K (pack K a ++ rest) ≡ Err n = ap (first_record K) q ∙ e in
       let z : ◌≡◌ {A = ℕ} 0 1 = cc in
       omega arith
 
@@ -45,16 +45,16 @@ module _ {A : Type 0} (K : Kinds A) {Fit : A → Type 0} (L : KindsLawful K Fit)
   record-refused n s e = ⊎_elim cut whole (cases_lt (length s) 6)
     where
       cut : length s < 6 → Why K Fit n s
-      cut l = let one : read_record K s ≡ Err EndsInside = rw (header-past s l) in inl (cc, omega arith)
+      cut l = let one : first_record K s ≡ Err EndsInside = rw (header-past s l) in inl (cc, omega arith)
 
       inside : 6 ≤ length s → length (drop 6 s) < size_of s → Why K Fit n s
       inside l m =
-          let one : read_record K s ≡ Err EndsInside = rw (header-here s l, text-past (size_of s) (drop 6 s) m) in
+          let one : first_record K s ≡ Err EndsInside = rw (header-here s l, text-past (size_of s) (drop 6 s) m) in
           inl (cc, omega (arith, length-drop 6 s))
 
       known : 6 ≤ length s → size_of s ≤ length (drop 6 s) → (o : Option (List ℕ → Option A)) → K.reader (kind_of s) ≡ o → Why K Fit n s
       known l m None p =
-          let two : read_record K s ≡ Err UnknownKind = rw (header-here s l, text-here (size_of s) (drop 6 s) m, p) in
+          let two : first_record K s ≡ Err UnknownKind = rw (header-here s l, text-here (size_of s) (drop 6 s) m, p) in
           inr (inl (cc, omega (arith, length-drop 6 s), p))
       known l m (Some read) p =
           let last : List ℕ → Result (A × ℕ × List ℕ) RecordFault = λ payload. or_refuse (read payload) BrokenLayout (λ a. Ok (a, 6 + size_of s, drop (size_of s) (drop 6 s))) in

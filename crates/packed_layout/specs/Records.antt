@@ -36,8 +36,8 @@ or_refuse None fault f = Err fault
 or_refuse (Some a) fault f = f a
 
 -- the record at the front: its value, its size and the bytes after it; or why it is refused. A payload has at most 32,768 bytes
-abbrev pub read_record : {A : Type 0} → Kinds A → List ℕ → Result (A × ℕ × List ℕ) RecordFault
-read_record K s =
+abbrev pub first_record : {A : Type 0} → Kinds A → List ℕ → Result (A × ℕ × List ℕ) RecordFault
+first_record K s =
     or_refuse (header.read s) EndsInside (λ h.
     or_refuse ((text h.0.0).read h.1) EndsInside (λ p.
     or_refuse (K.reader h.0.1) UnknownKind (λ read.
@@ -64,7 +64,7 @@ module _ {A E : Type 0} (K : Kinds A) (entry : ℕ → A → E) where
   abbrev pub read_records : ℕ → ℕ → List ℕ → Read E
   read_records zero offset s = entries []
   read_records (suc fuel) offset [] = entries []
-  read_records (suc fuel) offset (b ∷ bs) = elim (read_record K (b ∷ bs)) [ Err n ↦ broken_at n offset | Ok r ↦ also (entry offset r.0) (read_records fuel (offset + r.1) r.2) ]
+  read_records (suc fuel) offset (b ∷ bs) = elim (first_record K (b ∷ bs)) [ Err n ↦ broken_at n offset | Ok r ↦ also (entry offset r.0) (read_records fuel (offset + r.1) r.2) ]
 
   -- the entries of records that follow one another from an offset on
   abbrev pub entries_at : ℕ → List A → List E
@@ -90,7 +90,7 @@ module _ {A E : Type 0} (K : Kinds A) (entry : ℕ → A → E) (Fit : A → Typ
     pub fit : AllByRecursion Fit xs
     pub place : offset + length (pack_all K xs) ≡ o
     pub some : 1 ≤ length rest
-    pub refused : read_record K rest ≡ Err n
+    pub refused : first_record K rest ≡ Err n
 
   -- what is packed is read back
   abbrev pub ListIsRead : Type 0
@@ -122,4 +122,4 @@ module _ {A : Type 0} (K : Kinds A) (Fit : A → Type 0) where
   Why n s = ((n ≡ EndsInside) × (length s < 6 + size_of s)) ⊎ (((n ≡ UnknownKind) × (6 + size_of s ≤ length s) × (K.reader (kind_of s) ≡ None)) ⊎ ((n ≡ BrokenLayout) × (6 + size_of s ≤ length s) × (K.reader (kind_of s) ≢ None) × ((a : A) (rest : List ℕ) → Fit a → pack K a ++ rest ≢ s)))
 
   abbrev pub RefusedFor : Type 0
-  RefusedFor = (n : RecordFault) (s : List ℕ) → read_record K s ≡ Err n → Why n s
+  RefusedFor = (n : RecordFault) (s : List ℕ) → first_record K s ≡ Err n → Why n s

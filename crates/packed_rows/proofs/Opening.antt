@@ -12,7 +12,7 @@ use Rattle.packed_layout.specs.declared.faults.RowFault.TheVariants.{Record}
 use Rattle.packed_rows.specs.declared.OpenFault.TheVariants.{Row, Short}
 use Rattle.packed.specs.declared.view.RowView.{RowView}
 use Rattle.packed_layout.specs.Codec.{when, text, read_whole}
-use Rattle.packed_layout.specs.Records.{Read, entries, broken, also, header, read_record}
+use Rattle.packed_layout.specs.Records.{Read, entries, broken, also, header, first_record}
 use Rattle.packed_layout.specs.Layout.{Entry, row, rows, read_all}
 use Rattle.packed_rows.specs.Lists.{row_count, entries_of, offsets}
 use Rattle.packed_rows.specs.Opened.{numbered, opened}
@@ -121,7 +121,7 @@ entry-stands s (entries es) p k e h = stand (length s) s 0 es p k e h
 entry-stands s (broken a) p k e h = never _ h
 
 -- what a glance at an entry's record shows
-pub glance_at : (s : List ℕ) (o : ℕ) (value : ℕ × TheRow) (size : ℕ) (rest : List ℕ) → read_record rows (drop o s) ≡ Ok (value, size, rest) → (r : Option RowView) → option_map outlined r ≡ outline_at s o → (option_map shown r ≡ Some value) × Whole r
+pub glance_at : (s : List ℕ) (o : ℕ) (value : ℕ × TheRow) (size : ℕ) (rest : List ℕ) → first_record rows (drop o s) ≡ Ok (value, size, rest) → (r : Option RowView) → option_map outlined r ≡ outline_at s o → (option_map shown r ≡ Some value) × Whole r
 glance_at s o value size rest e r g =
     passed (header.read (drop o s)) EndsInside _ (value, size, rest) e λ x head e1.
     passed ((text x.0.0).read x.1) EndsInside _ (value, size, rest) e1 λ p body e2.
@@ -154,7 +154,7 @@ module _ (s places : List ℕ) (placed : offsets s ≡ places) (k : ℕ) where
       let e = nth-offsets (entries_of (read_all s)) k o (ap (λ (z : List ℕ). slice_get z k) placed ∙ h) in
       let t = entry-stands s (read_all s) refl k e.0 e.1 in
       let x = here s e.0.offset e.0 t.0 t.1 in
-      let at : read_record rows (drop o s) ≡ Ok (x.value, x.size, drop t.0 s) = subst (λ (n : ℕ). read_record rows (drop n s) ≡ Ok (x.value, x.size, drop t.0 s)) e.2 x.is in
+      let at : first_record rows (drop o s) ≡ Ok (x.value, x.size, drop t.0 s) = subst (λ (n : ℕ). first_record rows (drop n s) ≡ Ok (x.value, x.size, drop t.0 s)) e.2 x.is in
       let same : x.value ≡ numbered e.0 = ap numbered x.entry-is in
       let seen = glance_at s o x.value x.size (drop t.0 s) at r g in
       (seen.0 ∙ ap Some same ∙ sym (ap (option_map numbered) e.1), seen.1)

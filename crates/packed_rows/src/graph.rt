@@ -1,6 +1,5 @@
 // A packed list as a graph: its k-th record tells row k.
 ghost use Rattle.std.specs.Prelude.{◌≡◌};
-ghost use Rattle.rows.specs.Rows.{facts_of};
 ghost use Rattle.packed_rows.specs.Graphs.{project_in, import_at};
 
 use crate::PackedRows;

@@ -1,5 +1,5 @@
 // The rows of a packed list, by their place in it.
-ghost use Rattle.std.specs.Prelude.{◌≡◌, length, vec_capacity, MatchResult};
+ghost use Rattle.std.specs.Prelude.{◌≡◌, length, vec_capacity};
 ghost use Rattle.std.specs.Option.{option_map};
 ghost use Rattle.std.specs.List.{slice_get};
 ghost use Rattle.packed_layout.specs.Layout.{read_all};

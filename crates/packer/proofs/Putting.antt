@@ -69,5 +69,5 @@ write-push c (y ∷ ys) x = append_assoc (c.write y) (write_all c ys) (c.write x
 pub put-more : {A : Type 0} (c : Codec A) (xs : List A) (i : ℕ) (d : A) → i < length xs → {a e f : ℕ} {before middle after : List ℕ} → Put a (write_all c (take i xs)) before e middle → Put e (c.write (get_or xs i d)) middle f after → Put a (write_all c (take (i + 1) xs)) before f after
 put-more c xs i d h p q = put-alike (write-push c (take i xs) (get_or xs i d) ∙ ap (write_all c) (sym (take_more xs i d h))) (put_both p q)
 
-pub put_all : {A : Type 0} (c : Codec A) (xs : List A) (i : ℕ) → length xs ≤ i → {a e : ℕ} {before after : List ℕ} → Put a (write_all c (take i xs)) before e after → Put a (write_all c xs) before e after
-put_all c xs i h p = put-alike (ap (write_all c) (take_all i xs h)) p
+pub put-all : {A : Type 0} (c : Codec A) (xs : List A) (i : ℕ) → length xs ≤ i → {a e : ℕ} {before after : List ℕ} → Put a (write_all c (take i xs)) before e after → Put a (write_all c xs) before e after
+put-all c xs i h p = put-alike (ap (write_all c) (take_all i xs h)) p

@@ -59,7 +59,7 @@ keeps (p ∷ ps) tablet =
     (λ other. ap (λ m. put m p.tablet p.row p.stamp) rest ∙ without_other (in_pairs ps) p.tablet p.row tablet (Some p.stamp) (eqb-false _ _ (not-true _ other)))
     (λ own. rest ∙ without-same (in_pairs ps) p.tablet p.row tablet (Some p.stamp) (eqb-true _ _ (not-false _ own)))
 
--- ---- the whole table
+-- ---- out of range nothing is held
 
 pub past-tablets : (ps : List Pair) (t r : ℕ) → Up ps → 16 ≤ t → in_pairs ps t r ≡ None
 unfolding in_pairs nothing

@@ -15,6 +15,7 @@ abbrev pub Up : List Pair → Type 0
 Up [] = Unit {0}
 Up (p ∷ ps) = (p.tablet < 16) × (p.row < 4096) × AllByRecursion (λ q. rank_of p < rank_of q) ps × Up ps
 
+-- a table in order, read from its front
 pub up_from : (ps : List Pair) → Inside ps → Ordered ps → Up ps
 up_from [] inside ordered = tt
 up_from (p ∷ ps) inside ordered =
@@ -38,6 +39,7 @@ size-pairs [] up = size-nothing
 size-pairs (p ∷ ps) up =
     size-more (in_pairs ps) p.tablet p.row p.stamp up.0 up.1 (before-all ps p.tablet p.row up.2) ∙ ap suc (size-pairs ps up.3)
 
+-- nothing is held out of range, of a table read from its front
 pub up_inside : (ps : List Pair) (t r : ℕ) → Up ps → is_some (in_pairs ps t r) ≡ true → (t < 16) × (r < 4096)
 unfolding in_pairs nothing
 up_inside [] t r up some = absurd (false≢true some)

@@ -7,7 +7,7 @@ use Rattle.rows.specs.declared.ImportRecord.{ImportRecord}
 use Rattle.packed_layout.specs.declared.faults.RecordFault.{RecordFault}
 use Rattle.packed_layout.specs.declared.faults.RecordFault.TheVariants.{EndsInside, UnknownKind, BrokenLayout}
 use Rattle.packed_layout.specs.Codec.{Codec, when, text, number, within, ◌then◌, seen, read_times, read_whole, alone}
-use Rattle.packed_layout.specs.Records.{Read, entries, broken, also, header, read_record, read_records}
+use Rattle.packed_layout.specs.Records.{Read, entries, broken, also, header, first_record, read_records}
 use Rattle.packed_layout.specs.Layout.{Head, Entry, entry, row, rows, row_of, head_of, fields, head, name, count, import_record, import_records, sort, flags, exports_kind, allowed, read_all}
 use Rattle.packed_layout.proofs.Codecs.{never, when-some, bind-some, some_inj, text-wrote}
 use Rattle.packed_layout.proofs.Framing.{passed, ok-inj}
@@ -91,7 +91,7 @@ row_gives s p e =
     let fine = limited-of c.0.0.0 c.0.0.1 parts.0 parts.1 (subst (λ (q : ℕ × Row). allowed q.1 ≡ true) (sym value) w.0) in
     subst (λ (q : ℕ × Row). limited q.1 ≡ true) (value ∙ same) fine
 
-record-limited : (s : List ℕ) (r : (ℕ × Row) × ℕ × List ℕ) → read_record rows s ≡ Ok r → limited r.0.1 ≡ true
+record-limited : (s : List ℕ) (r : (ℕ × Row) × ℕ × List ℕ) → first_record rows s ≡ Ok r → limited r.0.1 ≡ true
 record-limited s r e =
     passed (header.read s) EndsInside _ r e λ x h e1.
     passed ((text x.0.0).read x.1) EndsInside _ r e1 λ p body e2.
@@ -121,7 +121,7 @@ also-limited e (entries fs) es h ih p =
     let same : e ∷ fs ≡ es = cc in
     subst AllLimited same (and_from _ _ h (ih fs refl))
 
-step-limited : (n offset : ℕ) (r : Result ((ℕ × Row) × ℕ × List ℕ) RecordFault) (s : List ℕ) (es : List Entry) → read_record rows s ≡ r
+step-limited : (n offset : ℕ) (r : Result ((ℕ × Row) × ℕ × List ℕ) RecordFault) (s : List ℕ) (es : List Entry) → first_record rows s ≡ r
     → ((k : ℕ) (t : List ℕ) (fs : List Entry) → read_records rows entry n k t ≡ entries fs → AllLimited fs)
     → elim r [ Err fault ↦ broken (record { fault = fault; offset = offset }) | Ok x ↦ also (entry offset x.0) (read_records rows entry n (offset + x.1) x.2) ] ≡ entries es → AllLimited es
 step-limited n offset (Err fault) s es e ih p = let z : ◌≡◌ {A = ℕ} 0 1 = cc in absurd (omega arith)
@@ -130,7 +130,7 @@ step-limited n offset (Ok x) s es e ih p = also-limited (entry offset x.0) (read
 records-limited : (fuel offset : ℕ) (s : List ℕ) (es : List Entry) → read_records rows entry fuel offset s ≡ entries es → AllLimited es
 records-limited zero offset s es e = let same : ◌≡◌ {A = List Entry} [] es = cc in subst AllLimited same refl
 records-limited (suc fuel) offset [] es e = let same : ◌≡◌ {A = List Entry} [] es = cc in subst AllLimited same refl
-records-limited (suc fuel) offset (b ∷ bs) es e = step-limited fuel offset (read_record rows (b ∷ bs)) (b ∷ bs) es refl (records-limited fuel) e
+records-limited (suc fuel) offset (b ∷ bs) es e = step-limited fuel offset (first_record rows (b ∷ bs)) (b ∷ bs) es refl (records-limited fuel) e
 
 pub read-limited : (s : List ℕ) (es : List Entry) → read_all s ≡ entries es → AllLimited es
 read-limited s es e = records-limited (length s) 0 s es e

@@ -12,7 +12,7 @@ use Rattle.project.specs.declared.faults.RescanFault.{RescanFault}
 use Rattle.project.specs.declared.faults.RescanFault.TheVariants.{WrongRows, NoTarget, NoRoom}
 use Rattle.project.specs.Rescan.{merged, rows_fault, numbers, dangling, records_of, bytes_of, rows_of, too_much, list_fault, judge_list, judge_rows, judge_read, unasked, from_snapshot}
 use Rattle.project.specs.Laws.{Stands, Kept, TablesStand}
-use Rattle.rows.proofs.Tests.{all_of, both-not, passed, differ, any_at, from-true, from_false, neither}
+use Rattle.rows.proofs.Tests.{from-both, both-not, passed, differ, any_at, from-true, from_false, neither}
 use Rattle.project.proofs.Limits.{AllLimited, read-limited}
 use Rattle.project.proofs.Placing.{merged-longer, merged_keeps, merged-apart, merged-total, merged-linked, merged-others, merged-limited, merged-new}
 
@@ -68,7 +68,7 @@ module _ (room : Room) (table : List Row) (wrong : List ℕ → Bool) (after : L
 
 -- a row that did not change is not in the list
 not_listed : (table : List Row) (touched ns : List ℕ) → T (not (unasked table touched ns)) → (r : ℕ) → r < length table → T (not (member r touched)) → T (not (member r ns))
-not_listed table touched ns right r l c = not_T (member r ns) (λ m. T_not (any (λ n. ltb n (length table) && not (member n touched)) ns) (both-not (any (λ n. ltb n (length table) && not (member n touched)) ns) _ right).0 (any_at (λ n. ltb n (length table) && not (member n touched)) ns r m (all_of (ltb r (length table)) _ (from-true (lt-ltb r (length table) l)) c)))
+not_listed table touched ns right r l c = not_T (member r ns) (λ m. T_not (any (λ n. ltb n (length table) && not (member n touched)) ns) (both-not (any (λ n. ltb n (length table) && not (member n touched)) ns) _ right).0 (any_at (λ n. ltb n (length table) && not (member n touched)) ns r m (from-both (ltb r (length table)) _ (from-true (lt-ltb r (length table) l)) c)))
 
 kept : (room : Room) (table : List Row) (touched : List ℕ) (after : List Row) (es : List Entry) → Passed room table (unasked table touched) after es → Kept touched table after
 kept room table touched after es p = subst (Kept touched table) p.result (record {

@@ -98,12 +98,12 @@ impl Bench {
                 self.collected.extend_from_slice(&self.page[0..len])?;
                 println!(rt; "{written}: ok {len}")?;
             }
-            Err(PackFault::Unfit) => println!(rt;
-                "line {number}: the row does not fit the layout"
-            )?,
-            Err(PackFault::Short { wanted }) => println!(rt;
-                "line {number}: the page has no room for {wanted} bytes"
-            )?,
+            Err(PackFault::Unfit) => {
+                println!(rt; "line {number}: the row does not fit the layout")?
+            }
+            Err(PackFault::Short { wanted }) => {
+                println!(rt; "line {number}: the page has no room for {wanted} bytes")?
+            }
         }
         Ok(())
     }

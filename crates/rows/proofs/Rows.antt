@@ -5,7 +5,7 @@ use Rattle.rows.specs.declared.Sort.{Sort}
 use Rattle.rows.specs.declared.Sort.TheVariants.{Normal, External}
 use Rattle.std.specs.Str.{bytes_eq}
 use Rattle.rows.specs.Rows.{Row, at, is_normal_sort, is_normal}
-use Rattle.rows.proofs.Tests.{both, all_of}
+use Rattle.rows.proofs.Tests.{both, from-both}
 
 -- a normal row is a row
 pub normal-row : (rows : List Row) (r : ℕ) → T (is_normal (at rows r)) → r < length rows
@@ -25,7 +25,7 @@ same_lists (x ∷ xs) (y ∷ ys) t =
 
 same_self : (xs : List ℕ) → T (bytes_eq xs xs)
 same_self [] = tt
-same_self (x ∷ xs) = all_of (eqb x x) (bytes_eq xs xs) (eqb_refl x) (same_self xs)
+same_self (x ∷ xs) = from-both (eqb x x) (bytes_eq xs xs) (eqb_refl x) (same_self xs)
 
 pub lists-same : (xs ys : List ℕ) → xs ≡ ys → T (bytes_eq xs ys)
 lists-same xs ys e = subst (λ zs. T (bytes_eq xs zs)) e (same_self xs)

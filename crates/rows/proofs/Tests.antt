@@ -7,9 +7,9 @@ pub both : (a b : Bool) → T (a && b) → T a × T b
 both true b t = (tt, t)
 both false b t = absurd t
 
-pub all_of : (a b : Bool) → T a → T b → T (a && b)
-all_of true b s t = t
-all_of false b s t = absurd s
+pub from-both : (a b : Bool) → T a → T b → T (a && b)
+from-both true b s t = t
+from-both false b s t = absurd s
 
 pub either : (a b : Bool) → T (a || b) → T a ⊎ T b
 either true b t = inl tt

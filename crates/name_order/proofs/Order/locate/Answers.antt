@@ -1,7 +1,7 @@
 use Rattle.std.proofs.Common.{◌≡◌, ◌+◌, ◌-◌, ◌/◌, ◌<◌, true, length, vec_items, subst, arith}
 use Rattle.name_order.specs.Orders.{before?, named}
 use Rattle.name_order.proofs.ByteOrder.{when-less, when-greater, when-equal}
-use Rattle.name_order.proofs.Splitting.{split-none, split-less, split-greater, read_at}
+use Rattle.name_order.proofs.Splitting.{split-none, split-less, split-greater, read-at}
 use Rattle.name_order.proofs.Placing.{order-rises, found, missing}
 use Rattle.name_order.proofs.Order.locate.Goals as goal
 
@@ -17,7 +17,7 @@ loop-low-preserved-in-Less g c =
     let names = g.N.Names.names c.args.names.now in let key = named names in
     let low = c.loop-low.low in let high = c.loop-low.high in let mid = low + (high - low) / 2 in
     let lt : mid < length xs = omega (arith, s.rows.ok.0) in
-    let here = read_at key xs mid c.index-row.result.now c.name.result.now c.index-row.ensures lt c.name.ensures in
+    let here = read-at key xs mid c.index-row.result.now c.name.result.now c.index-row.ensures lt c.name.ensures in
     let b = when-less c.name.result.now name c.in-Less.ensures in
     (omega arith, omega arith, λ o. split-less key name xs low mid high (order-rises names name xs o) lt (subst (λ n. before? n name ≡ true) here b) (c.loop-low.invariant.2 o))
 
@@ -27,7 +27,7 @@ loop-low-preserved g c =
     let names = g.N.Names.names c.args.names.now in let key = named names in
     let low = c.loop-low.low in let high = c.loop-low.high in let mid = low + (high - low) / 2 in
     let lt : mid < length xs = omega (arith, s.rows.ok.0) in
-    let here = read_at key xs mid c.index-row.result.now c.name.result.now c.index-row.ensures lt c.name.ensures in
+    let here = read-at key xs mid c.index-row.result.now c.name.result.now c.index-row.ensures lt c.name.ensures in
     let b = when-greater c.name.result.now name c.in-Greater.ensures in
     (omega arith, omega arith, λ o. split-greater key name xs low mid high (order-rises names name xs o) lt (subst (λ n. before? name n ≡ true) here b) (c.loop-low.invariant.2 o))
 
@@ -37,7 +37,7 @@ returns-in-Equal g c =
     let names = g.N.Names.names c.args.names.now in let key = named names in
     let low = c.loop-low.low in let high = c.loop-low.high in let mid = low + (high - low) / 2 in
     let lt : mid < length xs = omega (arith, s.rows.ok.0) in
-    let here = read_at key xs mid c.index-row.result.now c.name.result.now c.index-row.ensures lt c.name.ensures in
+    let here = read-at key xs mid c.index-row.result.now c.name.result.now c.index-row.ensures lt c.name.ensures in
     let b = when-equal c.name.result.now name c.in-Equal.ensures in
     record { within = omega (arith, s.rows.ok.0); located = λ o. found names name xs o mid lt (subst (λ n. n ≡ name) here b) }
 
