@@ -19,7 +19,7 @@ pub struct Names {
 }
 
 // Where the names of a row of the other side lie, which both sides share.
-pub fn names_of(head: Head) -> Names
+pub(super) fn names_of(head: Head) -> Names
     ensures { result ≡ names_in head }
 {
     Names {
@@ -29,7 +29,7 @@ pub fn names_of(head: Head) -> Names
 }
 
 // Adds the names of a row.
-pub fn add_names(bytes: &mut Vec<u8>, id: &[u8], stable_id: &[u8]) -> Names
+pub(super) fn add_names(bytes: &mut Vec<u8>, id: &[u8], stable_id: &[u8]) -> Names
     requires { vec_len bytes.old + (length id.now + length stable_id.now) ≤ vec_capacity bytes.old }
     ensures bytes { bytes.new.items ≡ bytes.old.items ++ (id.now ++ stable_id.now) }
     ensures len { vec_len bytes.new ≡ vec_len bytes.old + (length id.now + length stable_id.now) }
@@ -53,7 +53,7 @@ pub fn add_names(bytes: &mut Vec<u8>, id: &[u8], stable_id: &[u8]) -> Names
 }
 
 // Adds a row of the other side as it is.
-pub fn carry(spare: &mut Side, side: &Side, head: Head)
+pub(super) fn carry(spare: &mut Side, side: &Side, head: Head)
     requires records_fit { vec_len spare.old.records + length (cut side.now.records.items head.records) ≤ vec_capacity spare.old.records }
     requires row_fits { vec_len spare.old.heads < vec_capacity spare.old.heads }
     ensures records { spare.new.records.items ≡ spare.old.records.items ++ cut side.now.records.items head.records }
@@ -69,7 +69,7 @@ pub fn carry(spare: &mut Side, side: &Side, head: Head)
 }
 
 // Adds a row that was read, under names that are there.
-pub fn renew(spare: &mut Side, names: Names, view: RowView<'_>)
+pub(super) fn renew(spare: &mut Side, names: Names, view: RowView<'_>)
     requires whole { Whole (Some view) }
     requires records_fit { vec_len spare.old.records + view.count ≤ vec_capacity spare.old.records }
     requires row_fits { vec_len spare.old.heads < vec_capacity spare.old.heads }

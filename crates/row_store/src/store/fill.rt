@@ -7,7 +7,7 @@ ghost use Rattle.packed.specs.Views.{records_in};
 use packed::fields::take_import;
 use rows::ImportRecord;
 
-pub fn fill<T: Copy>(v: &mut Vec<T>, items: &[T])
+pub(super) fn fill<T: Copy>(v: &mut Vec<T>, items: &[T])
     requires { vec_len v.old + length items.now ≤ vec_capacity v.old }
     ensures items { v.new.items ≡ v.old.items ++ items.now }
     ensures len { vec_len v.new ≡ vec_len v.old + length items.now }
@@ -19,7 +19,7 @@ pub fn fill<T: Copy>(v: &mut Vec<T>, items: &[T])
 }
 
 // Adds so many import records, which the bytes are.
-pub fn decode(v: &mut Vec<ImportRecord>, count: u16, imports: &[u8])
+pub(super) fn decode(v: &mut Vec<ImportRecord>, count: u16, imports: &[u8])
     requires whole { is_some (read_whole (times import_record count) imports.now) ≡ true }
     requires fit { vec_len v.old + count ≤ vec_capacity v.old }
     ensures items { v.new.items ≡ v.old.items ++ records_in count imports.now }

@@ -15,7 +15,7 @@ use crate::store::add::{add_names, carry, names_of, renew};
 use packed::view::RowView;
 
 // Fills a side with the rows of the other, each with its change, and with the further rows.
-pub fn merge<C: Changes>(bytes: &mut Vec<u8>, spare: &mut Side, side: &Side, changes: &C)
+pub(super) fn merge<C: Changes>(bytes: &mut Vec<u8>, spare: &mut Side, side: &Side, changes: &C)
     requires few { length (C.Changes.given changes.now) ≤ 4096 }
     requires rows_fit { length (C.Changes.given changes.now) ≤ vec_capacity spare.old.heads }
     requires records_fit { total records_of (rows_in bytes.old.items side.now) + total given_records (C.Changes.given changes.now) ≤ vec_capacity spare.old.records }
