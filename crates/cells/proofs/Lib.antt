@@ -1,2 +1,2 @@
-mod Celled
-mod Cleared
+pub mod Celled
+pub mod Cleared

@@ -10,7 +10,6 @@ some-only-if false o some = some
 
 -- nothing is held out of range
 pub held-inside : (xs : List (Option ℕ)) (t r : ℕ) → is_some (in_cells xs t r) ≡ true → (t < 16) × (r < 4096)
-unfolding in_cells
 held-inside xs t r some =
     let range = and_parts _ _ (some-only-if _ _ some) in
     (ltb-true t 16 range.0, ltb-true r 4096 range.1)

@@ -1,18 +1,21 @@
 // A store that has a cell for each pair of a tablet and a row.
 #![tactic(auto)]
 
-ghost use Rattle.std.specs.Prelude.{◌≡◌, ◌<◌, ◌≤◌, min, IfOk, vec_len};
-ghost use Rattle.holdings.specs.Maps.{rank, nothing, changed, size, takes};
+ghost use Rattle.std.specs.Prelude.{◌≡◌, ◌≤◌, min, IfOk, vec_len, length, count_by, replicate, is_some};
+ghost use Rattle.holdings.specs.Maps.{size};
+ghost use Rattle.holdings.specs.Spots.{rank_of};
+ghost use Rattle.holdings.specs.Stores.{empty};
 ghost use Rattle.cells.specs.Cells.{in_cells};
 ghost use Rattle.std.proofs.Common.{subst};
 ghost use Rattle.cells.specs.Laws.{held-inside};
 
 use holdings::faults::StoreFault;
+use holdings::spot::Spot;
 use holdings::store::{Holdings, ROWS, TABLETS};
 use std::alloc::{AllocError, Global};
 
-// A cell for each of 16 tablets and 4,096 rows.
-const CELLS: usize = 65_536;
+// A cell for each of 16 tablets and 4,096 rows: 65,536.
+const CELLS: usize = TABLETS as usize * ROWS as usize;
 
 // The count is kept beside the cells, so that it need not be taken anew.
 #[derive(Drop)]
@@ -26,19 +29,27 @@ pub struct Cells {
     ghost bounded: { most ≤ 65536 },
 }
 
-// Where the cell of a pair stands.
-fn place(tablet: u8, row: u16) -> usize
-    requires tablets { tablet < 16 }
-    requires rows { row < 4096 }
-    ensures { result ≡ rank tablet row }
+// Where the cell of a spot stands.
+fn place(spot: Spot) -> usize
+    ensures { result ≡ rank_of spot }
 {
-    tablet as usize * ROWS as usize + row as usize
+    usize::from(spot.tablet) * usize::from(ROWS) + usize::from(spot.row)
+}
+
+// Empties some cells, and tells how many of them were full.
+fn clear(cells: &mut [Option<u32>]) -> usize
+    ensures full { result ≡ count_by is_some cells.old }
+    ensures none { cells.new ≡ replicate (length cells.old) None }
+{
+    let full = cells.iter().filter(|cell| cell.is_some()).count();
+    cells.fill(None);
+    full
 }
 
 impl Cells {
     // An empty store that holds at most `most` pairs; a most above 65,536, the number of cells, counts as that.
     pub fn new(heap: Global, most: usize) -> Result<Cells, AllocError>
-        ensures { IfOk result (λ s. (in_cells s.cells.items ≡ nothing) × (s.most ≡ min most 65536)) }
+        ensures { IfOk result (λ s. ⟦<Cells as Holdings>⟧.state s ≡ empty (min most 65536)) }
     {
         let cells = vec![in heap; None; CELLS]?;
         Ok(Cells {
@@ -47,45 +58,18 @@ impl Cells {
             most: most.min(CELLS),
         })
     }
-
-    // Whether the pair is in range, and either is held already or can be held besides.
-    fn has_room(&self, tablet: u8, row: u16) -> bool
-        ensures { result ≡ takes self.now.most (in_cells self.now.cells.items) tablet row }
-    {
-        tablet < TABLETS
-            && row < ROWS
-            && (self.count < self.most || self.get(tablet, row).is_some())
-    }
-
-    // Puts `to` into the cell of a pair, and keeps the count.
-    fn write(&mut self, tablet: u8, row: u16, to: Option<u32>)
-        requires tablets { tablet < 16 }
-        requires rows { row < 4096 }
-        requires room { size (changed (in_cells self.old.cells.items) tablet row to) ≤ self.old.most }
-        ensures after { in_cells self.new.cells.items ≡ changed (in_cells self.old.cells.items) tablet row to }
-        ensures same { self.new.most ≡ self.old.most }
-    {
-        let at = place(tablet, row);
-        let gone = usize::from(self.cells[at].is_some());
-        self.count = self.count - gone + usize::from(to.is_some());
-        self.cells[at] = to;
-    }
 }
 
 impl Holdings for Cells {
-    ghost held = { λ s. in_cells s.cells.items };
-
-    ghost most_held = { λ s. s.most };
+    ghost state = { λ s. record { held = in_cells s.cells.items; most = s.most } };
 
     ghost inside = { λ s. held-inside s.cells.items };
 
     ghost within = { λ s. subst (λ n. n ≤ s.most) s.counted s.within };
 
     fn get(&self, tablet: u8, row: u16) -> Option<u32> {
-        if tablet >= TABLETS || row >= ROWS {
-            return None;
-        }
-        self.cells[place(tablet, row)]
+        let spot = Spot::of(tablet, row)?;
+        self.cells[place(spot)]
     }
 
     fn count(&self) -> usize {
@@ -96,19 +80,27 @@ impl Holdings for Cells {
         self.most
     }
 
+    #[tactic(auto, using(crate::proofs::Celled::in_cells_put, crate::proofs::Celled::size_put))]
     fn set(&mut self, tablet: u8, row: u16, stamp: u32) -> Result<(), StoreFault> {
-        if !self.has_room(tablet, row) {
-            return Err(StoreFault::Full);
+        let spot = Spot::of(tablet, row).ok_or(StoreFault::Full)?;
+        let cell = &mut self.cells[place(spot)];
+        match cell {
+            Some(held) => *held = stamp,
+            None if self.count < self.most => {
+                *cell = Some(stamp);
+                self.count += 1;
+            }
+            None => return Err(StoreFault::Full),
         }
-        self.write(tablet, row, Some(stamp));
         Ok(())
     }
 
+    #[tactic(auto, unfolding(holdings::specs::Maps::cleared))]
     fn forget(&mut self, tablet: u8) {
-        if tablet < TABLETS {
-            for row in 0..ROWS {
-                self.write(tablet, row, None);
-            }
+        // The cells of a tablet stand together.
+        if let Some(first) = Spot::of(tablet, 0) {
+            let start = place(first);
+            self.count -= clear(&mut self.cells[start..start + usize::from(ROWS)]);
         }
     }
 }

@@ -1,5 +1,5 @@
 pub mod Changes
 pub mod Sizes
-pub mod Taking
+pub mod Ranks
 pub mod Putting
-mod Emptying
+pub mod Emptying

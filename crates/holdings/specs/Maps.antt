@@ -1,5 +1,5 @@
--- What a store means: a map from pairs of a tablet and a row to stamps.
-use Rattle.std.specs.Prelude.{ℕ, zero, suc, ◌+◌, ◌*◌, Bool, cond, ◌&&◌, ◌||◌, is_some, Some, None, Option, ◌==◌, nat_lt}
+-- Maps from pairs of a tablet and a row to stamps.
+use Rattle.std.specs.Prelude.{ℕ, zero, suc, ◌+◌, ◌*◌, Bool, cond, ◌&&◌, is_some, None, Option, ◌==◌, nat_lt}
 
 -- the stamp of each pair of a tablet and a row that is held
 abbrev pub Map : Type 0
@@ -17,13 +17,9 @@ nothing t r = None
 unfoldable pub changed : Map → ℕ → ℕ → Option ℕ → Map
 changed m tablet row to t r = cond (t == tablet && r == row) to (m t r)
 
--- one pair is at this stamp, and every other pair is as it was
-abbrev pub put : Map → ℕ → ℕ → ℕ → Map
-put m tablet row stamp = changed m tablet row (Some stamp)
-
 -- the pairs of one tablet are gone, and every other pair is as it was
-unfoldable pub without : Map → ℕ → Map
-without m tablet t r = cond (t == tablet) None (m t r)
+unfoldable pub cleared : Map → ℕ → Map
+cleared m tablet t r = cond (t == tablet) None (m t r)
 
 -- w 0 + .. + w (n - 1)
 unfoldable pub sum_to : (ℕ → ℕ) → ℕ → ℕ
@@ -41,7 +37,3 @@ size m = sum_to (λ t. sum_to (λ r. one (m t r)) 4096) 16
 -- whether the tablet is at most 15 and the row at most 4,095
 abbrev pub in_range : ℕ → ℕ → Bool
 in_range tablet row = nat_lt tablet 16 && nat_lt row 4096
-
--- whether a store that holds at most `most` pairs takes a stamp for this pair
-abbrev pub takes : ℕ → Map → ℕ → ℕ → Bool
-takes most m tablet row = in_range tablet row && (is_some (m tablet row) || nat_lt (size m) most)

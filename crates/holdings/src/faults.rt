@@ -9,6 +9,7 @@ pub enum StoreFault {
 }
 
 impl StoreFault {
+    // The number by which the refusal is told.
     pub fn number(self) -> u8
         ensures { result ≡ store_number self }
     {

@@ -2,5 +2,6 @@
 #![tactic(auto)]
 
 pub mod faults;
+pub mod spot;
 pub mod store;
 pub mod uses;

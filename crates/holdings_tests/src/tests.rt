@@ -17,32 +17,34 @@ enum Step {
 // The stamps of a list that is put: a row past their end is put at 0.
 const STAMPS: [u32; 3] = [20, 21, 22];
 
-// Each step, whether it is taken, and the count after it. The stores hold at most four pairs.
-const STEPS: [(Step, bool, usize); 24] = [
-    (Step::Forget(0), true, 0),
-    (Step::Set(15, 4095, 1), true, 1),
-    (Step::Set(0, 0, 2), true, 2),
-    (Step::Set(16, 0, 3), false, 2),
-    (Step::Set(0, 4096, 3), false, 2),
-    (Step::Set(255, 65535, 3), false, 2),
-    (Step::Set(1, 0, 4), true, 3),
-    (Step::Put(0, &[0, 1, 4095]), false, 3),
-    (Step::Put(0, &[0, 4096]), false, 3),
-    (Step::Put(16, &[]), false, 3),
-    (Step::Put(0, &[4095, 0]), true, 4),
-    (Step::Set(0, 1, 6), false, 4),
-    (Step::Set(0, 0, 7), true, 4),
-    (Step::Set(15, 4095, 4294967295), true, 4),
-    (Step::Set(16, 0, 8), false, 4),
-    (Step::Forget(16), true, 4),
-    (Step::Forget(2), true, 4),
-    (Step::Forget(0), true, 2),
-    (Step::Put(0, &[2, 1]), true, 4),
-    (Step::Put(0, &[1, 2, 2]), true, 4),
-    (Step::Set(14, 4095, 0), false, 4),
-    (Step::Forget(15), true, 3),
-    (Step::Set(14, 4095, 0), true, 4),
-    (Step::Forget(14), true, 3),
+const FULL: Result<(), StoreFault> = Err(StoreFault::Full);
+
+// Each step, what it answers, and the count after it. The stores hold at most four pairs.
+const STEPS: [(Step, Result<(), StoreFault>, usize); 24] = [
+    (Step::Forget(0), Ok(()), 0),
+    (Step::Set(15, 4095, 1), Ok(()), 1),
+    (Step::Set(0, 0, 2), Ok(()), 2),
+    (Step::Set(16, 0, 3), FULL, 2),
+    (Step::Set(0, 4096, 3), FULL, 2),
+    (Step::Set(255, 65535, 3), FULL, 2),
+    (Step::Set(1, 0, 4), Ok(()), 3),
+    (Step::Put(0, &[0, 1, 4095]), FULL, 3),
+    (Step::Put(0, &[0, 4096]), FULL, 3),
+    (Step::Put(16, &[]), FULL, 3),
+    (Step::Put(0, &[4095, 0]), Ok(()), 4),
+    (Step::Set(0, 1, 6), FULL, 4),
+    (Step::Set(0, 0, 7), Ok(()), 4),
+    (Step::Set(15, 4095, 4294967295), Ok(()), 4),
+    (Step::Set(16, 0, 8), FULL, 4),
+    (Step::Forget(16), Ok(()), 4),
+    (Step::Forget(2), Ok(()), 4),
+    (Step::Forget(0), Ok(()), 2),
+    (Step::Put(0, &[2, 1]), Ok(()), 4),
+    (Step::Put(0, &[1, 2, 2]), Ok(()), 4),
+    (Step::Set(14, 4095, 0), FULL, 4),
+    (Step::Forget(15), Ok(()), 3),
+    (Step::Set(14, 4095, 0), Ok(()), 4),
+    (Step::Forget(14), Ok(()), 3),
 ];
 
 fn take_step<S: Holdings>(store: &mut S, step: Step) -> Result<(), StoreFault> {
@@ -71,10 +73,10 @@ fn check_same<S: Holdings, T: Holdings>(rt: &impl Abort, one: &S, other: &T) {
 fn stores_agree(rt: HostRuntime) -> Result<(), Fail> {
     let mut wide = Cells::new(rt.alloc(), 4)?;
     let mut narrow = PairTable::new(rt.alloc(), 4)?;
-    for (step, taken, count) in STEPS {
+    for (step, expected, count) in STEPS {
         let answer = take_step(&mut narrow, step);
         assert_eq!(rt; take_step(&mut wide, step), answer);
-        assert_eq!(rt; answer.is_ok(), taken);
+        assert_eq!(rt; answer, expected);
         assert_eq!(rt; narrow.count(), count);
         check_same(&rt, &wide, &narrow);
     }
@@ -88,6 +90,7 @@ fn full_stores_agree(rt: HostRuntime) -> Result<(), Fail> {
     let mut wide = Cells::new(rt.alloc(), 512)?;
     let mut narrow = PairTable::new(rt.alloc(), 70000)?;
     for k in (0..=512u16).rev() {
+        // The tablet is at most 15, so the cast loses nothing.
         let step = Step::Set((k / 33) as u8, k, u32::from(k));
         let answer = take_step(&mut narrow, step);
         assert_eq!(rt; take_step(&mut wide, step), answer);

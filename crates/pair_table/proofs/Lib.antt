@@ -1,2 +1,3 @@
-mod Order
-mod Paired
+pub mod Paired
+pub mod Order
+pub mod Searched

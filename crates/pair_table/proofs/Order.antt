@@ -1,66 +1,48 @@
--- The order of a table: what a binary search learns of it, and which edits keep it.
-use Rattle.std.proofs.Common.{◌≡◌, ℕ, zero, suc, ◌+◌, ◌<◌, ◌≤◌, Bool, List, [], ◌∷◌, ◌++◌, length, get_or, take, drop, filter, sym, ap, subst, ⊎_elim, arith}
-use Rattle.std.proofs.ByRecursion.{All-append, All-take, All-drop, all_kept_by, All-from_get_or, All-get_or}
-use Rattle.std.proofs.lemmas.List.{get_or_read}
-use Rattle.std.proofs.lemmas.Bool.{cases_eq, cond_both}
-use Rattle.pair_table.specs.Laws.{Up}
-use Rattle.pair_table.specs.Pairs.{rank_of, Inside, Ordered, Missing}
+-- The order of a table: what a search learns from it, and which edits keep it.
+use Rattle.std.proofs.Common.{◌≡◌, ℕ, ◌+◌, ◌-◌, ◌<◌, ◌≤◌, List, length, get_or, filter, Result, Ok, Err, Ordering, MatchResult, sym, ap, ◌∙◌, subst, arith}
+use Rattle.std.specs.List.{insert}
+use Rattle.std.specs.List.Sorted.{IsSearchInRange, IsBinarySearchResult, IsNonDecreasingBy}
+use Rattle.std.specs.Ordering.{MatchOrdering, nat_cmp, ordering_index}
+use Rattle.std.proofs.lemmas.Cmp.{ranked}
+use Rattle.std.proofs.lemmas.List.Edits.{length-insert, get_or-insert_below, get_or-insert_at, get_or-insert_above}
+use Rattle.std.proofs.lemmas.List.Kept.{AllPairs-filter}
+use Rattle.std.proofs.lemmas.Bool.Decides.{nat_tests}
+use Rattle.holdings.specs.Spots.{rank_of}
+use Rattle.holdings.specs.declared.spot.Spot.{Spot}
+use Rattle.pair_table.specs.Pairs.{Ordered, Found, Missing, elsewhere}
 use Rattle.pair_table.specs.declared.pair.Pair.{Pair}
 
--- ---- what a pair that was read tells of the others
+-- cmp is the order of spots, by its value
+module _ (cmp : Spot → Spot → Ordering) (by_rank : (a b : Spot) → cmp a b ≡ nat_cmp (rank_of a) (rank_of b)) (ps : List Pair) (ordered : Ordered ps) (spot : Spot) where
+  -- the comparisons with a spot rise along the table, as a binary search asks
+  comparisons_rise : IsNonDecreasingBy (λ p. ordering_index (cmp p.spot spot)) ps
+  comparisons_rise i j d le in_range =
+      let rises : rank_of (get_or ps i d).spot ≤ rank_of (get_or ps j d).spot = grind (arith, ordered i j d) in
+      rw (by_rank (get_or ps i d).spot spot, by_rank (get_or ps j d).spot spot) (grind (arith, nat_tests))
 
-module _ (ps : List Pair) (mid key : ℕ) (x : Pair) (ordered : Ordered ps) (within : mid < length ps) (read : x ≡ get_or ps mid x) where
-  pub below_more : rank_of x < key → (k : ℕ) (d : Pair) → k < mid + 1 → rank_of (get_or ps k d) < key
-  below_more less k d l =
-      let at : rank_of x ≡ rank_of (get_or ps mid d) = ap rank_of (get_or_read ps mid x within read d) in
-      ⊎_elim
-      (λ e. subst (λ n. rank_of (get_or ps n d) < key) (sym e) (omega arith))
-      (λ apart. let up = ordered k mid d (omega arith, within) in omega arith)
-      (cases_eq k mid)
+  ranked_at : (p : Pair) (r : Ordering) → cmp p.spot spot ≡ r → MatchOrdering r (rank_of p.spot < rank_of spot) (rank_of p.spot ≡ rank_of spot) (rank_of spot < rank_of p.spot)
+  ranked_at p r is = ranked (rank_of p.spot) (rank_of spot) r (sym is ∙ by_rank p.spot spot)
 
-  pub above_more : key ≤ rank_of x → (k : ℕ) (d : Pair) → mid ≤ k → k < length ps → key ≤ rank_of (get_or ps k d)
-  above_more least k d l in' =
-      let at : rank_of x ≡ rank_of (get_or ps mid d) = ap rank_of (get_or_read ps mid x within read d) in
-      ⊎_elim
-      (λ e. subst (λ n. key ≤ rank_of (get_or ps n d)) (sym e) (omega arith))
-      (λ apart. let up = ordered mid k d (omega arith, in') in omega arith)
-      (cases_eq k mid)
+  -- a binary search ends at the pair of the spot, or where it belongs
+  pub searched : (r : Result ℕ ℕ) → IsSearchInRange r (length ps) → IsBinarySearchResult (λ p. cmp p.spot spot) ps r → MatchResult r (Found ps spot) (Missing ps spot)
+  searched (Ok i) in_range equal = (in_range, λ d. ranked_at (get_or ps i d) _ (equal d))
+  searched (Err i) in_range parted =
+      let parts = parted comparisons_rise in (
+        in_range,
+        (λ k d low l. ranked_at (get_or ps k d) _ (parts.0 k d low l), λ k d low l. ranked_at (get_or ps k d) _ (parts.1 k d low l)),
+      )
 
-pub inside-read : (ps : List Pair) (i : ℕ) (x : Pair) → Inside ps → i < length ps → x ≡ get_or ps i x → (x.tablet < 16) × (x.row < 4096)
-inside-read ps i x inside within read = subst (λ p. (p.tablet < 16) × (p.row < 4096)) (sym read) (inside i x within)
+-- a pair that comes in where it belongs keeps the order: each pair is an old one below its place, itself, or an old one moved up by one
+pub Ordered-insert : (ps : List Pair) (i : ℕ) (x : Pair) → Missing ps x.spot i → Ordered ps → Ordered (insert ps i x)
+Ordered-insert ps i x missing ordered j k d less in_range =
+    let new = insert ps i x in
+    let longer = length-insert ps i x missing.0 in
+    let rank_at = λ (p : Pair). rank_of p.spot in
+    let below : (j : ℕ) → j < i → rank_of (get_or new j d).spot ≡ rank_of (get_or ps j d).spot = λ j l. ap rank_at (get_or-insert_below ps i x d j l missing.0) in
+    let here : (j : ℕ) → j ≡ i → rank_of (get_or new j d).spot ≡ rank_of x.spot = λ j e. rw e (ap rank_at (get_or-insert_at ps i x d missing.0)) in
+    let above : (j : ℕ) → i < j → rank_of (get_or new j d).spot ≡ rank_of (get_or ps (j - 1) d).spot = λ j l. subst (λ q. rank_of (get_or new q d).spot ≡ rank_of (get_or ps (j - 1) d).spot) {x = j - 1 + 1} (omega arith) (ap rank_at (get_or-insert_above ps i x d (j - 1) (omega arith) missing.0)) in
+    grind (arith, below j, here j, above j, below k, here k, above k, ordered j k d, ordered j (k - 1) d, ordered (j - 1) (k - 1) d, missing.1.0 j d, missing.1.1 (k - 1) d)
 
--- ---- the order by recursion
-
-pub inside-from : (ps : List Pair) → Up ps → Inside ps
-inside-from [] up k d l = absurd (omega arith)
-inside-from (p ∷ ps) up zero d l = (up.0, up.1)
-inside-from (p ∷ ps) up (suc k) d l = inside-from ps up.3 k d (omega arith)
-
-pub ordered-from : (ps : List Pair) → Up ps → Ordered ps
-ordered-from [] up i j d h = absurd (omega (arith, h.1))
-ordered-from (p ∷ ps) up i zero d h = absurd (omega (arith, h.0))
-ordered-from (p ∷ ps) up zero (suc j) d h = All-get_or (λ q. rank_of p < rank_of q) ps j d (omega (arith, h.1)) up.2
-ordered-from (p ∷ ps) up (suc i) (suc j) d h = ordered-from ps up.3 i j d (omega (arith, h.0), omega (arith, h.1))
-
--- ---- edits
-
-pub up_kept : (f : Pair → Bool) (ps : List Pair) → Up ps → Up (filter f ps)
-up_kept f [] up = tt
-up_kept f (p ∷ ps) up =
-    cond_both (f p) (p ∷ filter f ps) (filter f ps) Up
-    (λ _. (up.0, up.1, all_kept_by f (λ q. rank_of p < rank_of q) ps up.2, up_kept f ps up.3))
-    (λ _. up_kept f ps up.3)
-
-up-inserted : (ps : List Pair) (i : ℕ) (x : Pair) → x.tablet < 16 → x.row < 4096 → i ≤ length ps → ((k : ℕ) (d : Pair) → k < i → rank_of (get_or ps k d) < rank_of x) → ((k : ℕ) (d : Pair) → i ≤ k → k < length ps → rank_of x < rank_of (get_or ps k d)) → Up ps → Up (take i ps ++ x ∷ drop i ps)
-up-inserted ps zero x xt xr l below above up =
-    (xt, xr, All-from_get_or (λ q. rank_of x < rank_of q) ps x (λ k m. above k x (omega arith) m), up)
-up-inserted [] (suc i) x xt xr l below above up = absurd (omega arith)
-up-inserted (p ∷ ps) (suc i) x xt xr l below above up = (
-  up.0,
-  up.1,
-  All-append (λ q. rank_of p < rank_of q) (take i ps) (x ∷ drop i ps) (All-take (λ q. rank_of p < rank_of q) i ps up.2) (below zero p (omega arith), All-drop (λ q. rank_of p < rank_of q) i ps up.2),
-  up-inserted ps i x xt xr (omega arith) (λ k d m. below (suc k) d (omega arith)) (λ k d m n. above (suc k) d (omega arith) (omega arith)) up.3,
-)
-
-pub missing-up : (ps : List Pair) (i : ℕ) (x : Pair) → x.tablet < 16 → x.row < 4096 → Missing ps x.tablet x.row i → Up ps → Up (take i ps ++ x ∷ drop i ps)
-missing-up ps i x xt xr missing up = up-inserted ps i x xt xr missing.0 missing.1 missing.2 up
+-- pairs that are left are in order
+pub Ordered-elsewhere : (ps : List Pair) (tablet : ℕ) → Ordered ps → Ordered (filter (elsewhere tablet) ps)
+Ordered-elsewhere ps tablet ordered = AllPairs-filter (λ p q. rank_of p.spot < rank_of q.spot) (elsewhere tablet) ps ordered

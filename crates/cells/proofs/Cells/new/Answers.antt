@@ -1,15 +1,22 @@
-use Rattle.std.proofs.Common.{sym, ap, ◌∙◌, arith}
-use Rattle.holdings.specs.Maps.{size}
+use Rattle.std.proofs.Common.{◌≡◌, ℕ, Some, None, Option, sym, refl, ap, ◌∙◌}
+use Rattle.holdings.specs.Maps.{nothing, size}
+use Rattle.holdings.specs.Stores.{empty}
 use Rattle.holdings.proofs.Sizes.{size-nothing}
 use Rattle.cells.specs.Cells.{in_cells}
-use Rattle.cells.proofs.Celled.{cells-none, only_none}
+use Rattle.cells.proofs.Celled.{in_cells-none}
 use Rattle.cells.proofs.Cells.new.Goals as goal
+use Rattle.cells.proofs.Cells.new.Goals.{In_ok-cells}
 
-pub invariant_of-result : goal.invariant_of-result
-invariant_of-result c =
-    let made = c.in_ok-cells.ensures in
-    let none = sym (ap (λ xs. size (in_cells xs)) (made.items_if_clones_equal (only_none _ (λ x h. h))) ∙ ap size (cells-none 65536) ∙ size-nothing) in
-    record { long = made.len; counted = none; within = omega arith; bounded = omega arith }
+-- what is a clone of `None`
+only_none : (R : Option ℕ → Type 0) → ((x : ℕ) → R (Some x) → ⊥) → (y : Option ℕ) → R y → y ≡ None
+only_none R never None h = refl
+only_none R never (Some x) h = absurd (never x h)
+
+none_held : (c : In_ok-cells) → in_cells c.in_ok-cells.cells.items ≡ nothing
+none_held c = ap in_cells (c.in_ok-cells.ensures.items_if_clones_equal (only_none _ (λ x h. h))) ∙ in_cells-none 65536
+
+pub invariant_of-result-clause-counted : goal.invariant_of-result-clause-counted
+invariant_of-result-clause-counted c = sym (ap size (none_held (goal.at.invariant_of-result-clause-counted c).In_ok-cells) ∙ size-nothing)
 
 pub returns : goal.returns
-returns c = (ap in_cells (c.in_ok-cells.ensures.items_if_clones_equal (only_none _ (λ x h. h))) ∙ cells-none 65536, c.min.ensures)
+returns c = ap (λ m. record { held = m; most = c.min.result }) (none_held (goal.at.returns c).In_ok-cells) ∙ ap empty c.min.ensures

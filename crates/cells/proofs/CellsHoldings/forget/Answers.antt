@@ -1,35 +1,21 @@
-use Rattle.std.proofs.Common.{◌≡◌, None, refl, ap, ◌∙◌, arith}
-use Rattle.holdings.specs.Maps.{changed}
-use Rattle.holdings.proofs.Sizes.{size-gone}
-use Rattle.cells.specs.Cells.{in_cells}
-use Rattle.cells.proofs.Cleared.{cleared, cleared-none, cleared_more, cleared-all, without-past}
+use Rattle.std.proofs.Common.{◌+◌, ◌-◌, ap, arith}
+use Rattle.cells.proofs.Cleared.{Forgets, written, forgets}
 use Rattle.cells.proofs.CellsHoldings.forget.Goals as goal
+use Rattle.cells.proofs.CellsHoldings.forget.Goals.{After-clear}
 
-pub loop-row-init : goal.loop-row-init
-loop-row-init c = (cleared-none _ c.args.tablet, refl)
+emptied : (c : After-clear) → let cells = c.args.self.now.cells in let start = c.place-start.result in Forgets cells.items (written cells.items c.deref_mut.result.now c.clear.new.cells start (start + c.from.result - start) cells.len) c.args.tablet c.clear.result
+emptied c =
+    let store = c.args.self.now in
+    let pair = c.in-Some.ensures.pair in
+    rw c.clear.ensures.full (
+    forgets store.cells.items _ _ c.args.tablet c.place-start.result _ _ (omega (arith, pair.0)) (omega (arith, pair.0, pair.1)) (omega arith) store.long store.cells.ok.0 c.deref_mut.ensures.value c.clear.ensures.none
+    )
 
-pub write-requires : goal.write-requires
-write-requires c = record { tablets = omega arith; rows = omega arith; room = size-gone _ _ _ _ (omega arith) (omega arith) (omega arith) }
+pub overflow_sub-self : goal.overflow_sub-self
+overflow_sub-self c = omega (arith, (emptied (goal.at.overflow_sub-self c).After-clear).fewer)
 
-pub loop-row-preserved : goal.loop-row-preserved
-loop-row-preserved c = (
-  c.write.ensures.after
-      ∙ ap (λ m. changed m c.args.tablet c.loop-row.row None) c.loop-row.invariant.0
-      ∙ cleared_more (in_cells c.args.self.now.cells.items) c.args.tablet c.loop-row.row,
-  c.write.ensures.same ∙ c.loop-row.invariant.1,
-)
+pub invariant_of-self-clause-counted : goal.invariant_of-self-clause-counted
+invariant_of-self-clause-counted c = omega (arith, (emptied (goal.at.invariant_of-self-clause-counted c).After-clear).fewer)
 
-pub returns-after-loop-row : goal.returns-after-loop-row
-returns-after-loop-row c =
-    let cells = c.args.self.now.cells.items in
-    let all : c.loop-row.row ≡ 4096 = omega arith in
-    record {
-      after = c.loop-row.invariant.0 ∙ ap (cleared (in_cells cells) c.args.tablet) all ∙ cleared-all cells c.args.tablet;
-      same = c.loop-row.invariant.1;
-    }
-
-pub returns-else-tablet-lt-TABLETS : goal.returns-else-tablet-lt-TABLETS
-returns-else-tablet-lt-TABLETS c = record {
-  after = without-past c.args.self.now.cells.items c.args.tablet c.if-tablet-lt-TABLETS.false;
-  same = refl;
-}
+pub returns-in-Some : goal.returns-in-Some
+returns-in-Some c = ap (λ m. record { held = m; most = c.args.self.now.most }) (emptied (goal.at.returns-in-Some c).After-clear).gone

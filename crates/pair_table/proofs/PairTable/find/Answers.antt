@@ -1,21 +1,16 @@
-use Rattle.std.proofs.Common.{◌≡◌, suc, ◌<◌, length, get_or, ap, ⊎_elim, arith}
-use Rattle.holdings.specs.Maps.{rank}
-use Rattle.pair_table.specs.Pairs.{rank_of}
-use Rattle.pair_table.proofs.Order.{above_more, inside-read}
+use Rattle.std.proofs.Common.{rules}
+use Rattle.std.proofs.lemmas.List.Sorted.{answers_always}
+use Rattle.holdings.proofs.Ranks.{cmp-rank_of}
+use Rattle.pair_table.proofs.Order.{searched}
+use Rattle.pair_table.proofs.Searched.{found_if_held}
 use Rattle.pair_table.proofs.PairTable.find.Goals as goal
 
-pub returns-else-pair-tablet : goal.returns-else-pair-tablet
-returns-else-pair-tablet c =
-    let s = c.args.self.now in
-    let i = c.before-i.result in
-    let x = c.index-pair.result.now in
-    let within : i < length s.pairs.items = omega (arith, s.pairs.ok.0) in
-    let bounds = inside-read s.pairs.items i x s.inside within c.index-pair.ensures in
-    let least = c.before-i.ensures.above i x (omega arith) (omega arith) in
-    let at : rank_of x ≡ rank_of (get_or s.pairs.items i x) = ap rank_of c.index-pair.ensures in
-    let more : rank c.args.tablet c.args.row < rank_of x =
-    ⊎_elim (λ h. omega (arith, h.0, h.1, bounds.1)) (λ h. omega (arith, h, bounds.1)) c.else-pair-tablet.either in (
-      omega arith,
-      c.before-i.ensures.below,
-      above_more s.pairs.items i (suc (rank c.args.tablet c.args.row)) x s.ordered within c.index-pair.ensures more,
-    )
+-- the closure gives a pair's spot, and the slice is the table's pairs
+pub returns-clause-place : goal.returns-clause-place
+returns-clause-place c =
+    let facts = c.binary_search_by_key.ensures in
+    let by_spot = facts.position (λ pair. pair.spot) (answers_always _ _ _ (λ f a r g called. search rules)) in
+    rw (← c.deref.ensures.value) (searched _ cmp-rank_of _ (rw c.deref.ensures.value c.args.self.now.ordered) c.args.spot _ facts.bound by_spot)
+
+pub returns-clause-held : goal.returns-clause-held
+returns-clause-held c = found_if_held _ c.args.spot _ c.args.self.now.ordered (returns-clause-place c)

@@ -1,29 +1,19 @@
-use Rattle.std.proofs.Common.{◌≤◌, length, sym, refl, ap, ◌∙◌, subst, arith}
-use Rattle.std.proofs.lemmas.List.Sums.{length-filter, count_by-le-length}
-use Rattle.pair_table.specs.Pairs.{in_pairs, elsewhere}
-use Rattle.pair_table.specs.Laws.{Up, up_from}
-use Rattle.pair_table.proofs.Order.{up_kept, inside-from, ordered-from}
-use Rattle.pair_table.proofs.Paired.{keeps}
+use Rattle.std.proofs.Common.{◌≡◌, filter, sym, subst, ap, ◌∙◌, rules}
+use Rattle.std.proofs.lemmas.Fn.{filter_same}
+use Rattle.pair_table.specs.Pairs.{in_pairs, Ordered, elsewhere}
+use Rattle.pair_table.proofs.Order.{Ordered-elsewhere}
+use Rattle.pair_table.proofs.Searched.{in_pairs_elsewhere}
 use Rattle.pair_table.proofs.PairTableHoldings.forget.Goals as goal
+use Rattle.pair_table.proofs.PairTableHoldings.forget.Goals.{After-retain}
 
-pub invariant_of-self : goal.invariant_of-self
-invariant_of-self c =
-    let s = c.args.self.now in
-    let p = elsewhere c.args.tablet in
-    let after = c.keep_elsewhere.new.pairs in
-    let items = c.keep_elsewhere.ensures.items in
-    let up : Up after.items = subst Up (sym items) (up_kept p s.pairs.items (up_from s.pairs.items s.inside s.ordered)) in
-    let short : length after.items ≤ length s.pairs.items =
-    omega (arith, ap length items, length-filter p s.pairs.items, count_by-le-length p s.pairs.items) in
-    record {
-      few = omega (arith, after.ok.0, s.pairs.ok.0);
-      reserved = omega (arith, c.keep_elsewhere.ensures.capacity);
-      inside = inside-from after.items up;
-      ordered = ordered-from after.items up;
-    }
+-- the closure keeps the pairs of other tablets
+kept : (c : After-retain) → c.retain.new.self.items ≡ filter (elsewhere c.args.tablet) c.args.self.now.pairs.items
+kept c = filter_same _ _ _ (λ x b f' k. search rules) _ _ c.retain.ensures.filtered
+
+pub invariant_of-self-clause-ordered : goal.invariant_of-self-clause-ordered
+invariant_of-self-clause-ordered c = subst Ordered (sym (kept (goal.at.invariant_of-self-clause-ordered c).After-retain)) (Ordered-elsewhere _ _ c.args.self.now.ordered)
 
 pub returns : goal.returns
-returns c = record {
-  after = ap in_pairs c.keep_elsewhere.ensures.items ∙ keeps c.args.self.now.pairs.items c.args.tablet;
-  same = refl;
-}
+returns c =
+    ap (λ ps. record { held = in_pairs ps; most = c.args.self.now.most }) (kept (goal.at.returns c).After-retain)
+    ∙ ap (λ m. record { held = m; most = c.args.self.now.most }) (in_pairs_elsewhere c.args.self.now.pairs.items c.args.tablet)
