@@ -1,7 +1,7 @@
 -- A loop that judges the rows of a list.
-use Rattle.std.proofs.Common.{◌≡◌, ℕ, zero, suc, ◌<◌, ◌≤◌, Bool, true, false, cond, ◌||◌, ltb, List, [], ◌∷◌, ◌++◌, map, length, get_or, drop, set, is_some, Some, None, Ok, Err, Option, Result, unwrap_or, sym, refl, ap, ◌∙◌, subst, ⊎_elim, arith}
+use Rattle.std.proofs.Common.{◌≡◌, ℕ, zero, suc, ◌<◌, ◌≤◌, Bool, true, false, cond, ◌||◌, ltb, List, [], ◌∷◌, ◌++◌, length, get_or, set, is_some, Some, None, Ok, Err, Option, Result, unwrap_or, sym, refl, ap, ◌∙◌, subst, ⊎_elim, arith}
 use Rattle.std.specs.List.{slice_get}
-use Rattle.std.proofs.lemmas.List.{append_assoc, append-nil, map_push, length_push, length-set}
+use Rattle.std.proofs.lemmas.List.{append_assoc, map_push, length_push, length-set, length-map, length-replicate, map-set}
 use Rattle.std.proofs.lemmas.Bool.{cond-true, cond-false, lt-ltb, le-ltb, cases_lt}
 use Rattle.rows.specs.Numbers.{member, repeats}
 use Rattle.rows.specs.Rows.{Row, nowhere}
@@ -12,7 +12,7 @@ use Rattle.packed_layout.specs.Layout.{Entry}
 use Rattle.project.specs.Rescan.{placed, merged, clashes, rows_fault, numbers}
 use Rattle.module_table.specs.Drafts.{blank, placing, places_by, glance_row, glanced_by, overlay, drafted}
 use Rattle.module_table.specs.Judged.{InOrder, row_judged, judged_by, rows_judged}
-use Rattle.module_table.proofs.Listing.{repeats-push, listed_at, length-blank}
+use Rattle.module_table.proofs.Listing.{repeats-push, listed_at}
 
 -- Lists of entries, one after another.
 
@@ -56,18 +56,9 @@ pub overlay-blank : (s : List ℕ) (table : List Row) → drafted table s (blank
 overlay-blank s [] = refl
 overlay-blank s (r ∷ rs) = ap {B = List Row} (λ xs. r ∷ xs) (overlay-blank s rs)
 
-map-set : {A B : Type 0} (f : A → B) (xs : List A) (n : ℕ) (x : A) → map f (set xs n x) ≡ set (map f xs) n (f x)
-map-set f [] n x = refl
-map-set f (y ∷ ys) zero x = refl
-map-set {A} {B} f (y ∷ ys) (suc n) x = ap {B = List B} (λ zs. f y ∷ zs) (map-set f ys n x)
-
-length-map : {A B : Type 0} (f : A → B) (xs : List A) → length (map f xs) ≡ length xs
-length-map f [] = refl
-length-map f (x ∷ xs) = ap suc (length-map f xs)
-
 module _ (s : List ℕ) (table : List Row) (places : List (Option ℕ)) (e : Entry) (seen : glance_row s (Some e.offset) ≡ Some e.row) (wide : length table ≤ length places) where
   glanced-long : length (glanced_by s places) ≡ length places
-  glanced-long = length-map (glance_row s) places
+  glanced-long = length-map places (glance_row s)
 
   drafted-long : length (drafted table s places) ≡ length places
   drafted-long = (let l = glanced-long in overlay-long table (glanced_by s places) (omega arith)) ∙ glanced-long
@@ -108,18 +99,15 @@ pub record Judging (table : List Row) (s : List ℕ) (es done todo : List Entry)
 
 pub judging-start : (table : List Row) (s : List ℕ) (es : List Entry) (places : List (Option ℕ)) (ids stables : List ℕ) → places ≡ blank (length table) → InOrder table ids stables → Judging table s es [] es places ids stables false
 judging-start table s es places ids stables e o =
-    let long : length places ≡ length table = ap length e ∙ length-blank (length table) in
+    let long : length places ≡ length table = ap length e ∙ length-replicate (length table) None in
     record { split = refl; clean = refl; listed = e; wide = omega arith; draft = ap (drafted table s) e ∙ overlay-blank s table; orders = o; told = refl }
 
 -- the answer for the next entry
 module _ {table : List Row} {s : List ℕ} {es done todo : List Entry} {places : List (Option ℕ)} {ids stables : List ℕ} {twice : Bool} (j : Judging table s es done todo places ids stables twice) where
   pub judging-long : length places ≡ length (drafted table s places)
   judging-long =
-      let a = length-map (glance_row s) places in
+      let a = length-map places (glance_row s) in
       sym (overlay-long table (glanced_by s places) (let w = j.wide in omega arith) ∙ a)
-
-  pub judging-orders : InOrder (drafted table s places) ids stables
-  judging-orders = subst (λ (rs : List Row). InOrder rs ids stables) (sym j.draft) j.orders
 
   pub judging-left : rows_fault table es ≡ rows_fault (merged table done) todo
   judging-left = ap (rows_fault table) (sym j.split) ∙ fault-append table done todo j.clean
@@ -161,36 +149,10 @@ module _ {table : List Row} {s : List ℕ} {es done : List Entry} {e : Entry} {r
   judging-fault f bad =
       sym (ap (judged_by es) (judging-left j ∙ ap (λ (rs : List Row). rows_fault rs (e ∷ rest)) (sym j.draft) ∙ judged-err (drafted table s places) (is_some (get_or places e.number None)) e rest f bad))
 
--- all entries are done
-module _ {table : List Row} {s : List ℕ} {es done : List Entry} {places : List (Option ℕ)} {ids stables : List ℕ} {twice : Bool} (j : Judging table s es done [] places ids stables twice) where
-  all_done : done ≡ es
-  all_done = sym (append-nil done) ∙ j.split
-
-  pub judging-end : Ok twice ≡ rows_judged table es
-  judging-end = ap {B = Result Bool RowFault} Ok (j.told ∙ ap (λ (xs : List Entry). repeats (numbers xs)) all_done) ∙ sym (ap (judged_by es) (sym (ap (rows_fault table) all_done) ∙ j.clean))
-
-  pub judging-places : places ≡ places_by (blank (length table)) es
-  judging-places = j.listed ∙ ap (places_by (blank (length table))) all_done
-
-  pub judging-ordered : InOrder (merged table es) ids stables
-  judging-ordered = subst (λ (xs : List Entry). InOrder (merged table xs) ids stables) all_done j.orders
-
 -- the entry that comes next stands in the list
 pub next-in : (done rest : List Entry) (e : Entry) → slice_get (done ++ e ∷ rest) (length done) ≡ Some e
 next-in [] rest e = refl
 next-in (d ∷ done) rest e = next-in done rest e
-
--- what comes, by what is read of it
-pub comes : (xs ys : List Entry) (e : Entry) → Some e ≡ slice_get xs 0 → ys ≡ drop 1 xs → xs ≡ e ∷ ys
-comes [] ys e h t = let z : ◌≡◌ {A = ℕ} 0 1 = cc in absurd (omega arith)
-comes (x ∷ xs) ys e h t = let same : x ≡ e = cc in ap {B = List Entry} (λ z. z ∷ xs) same ∙ ap {B = List Entry} (λ zs. e ∷ zs) (sym t)
-
-pub comes-none : (xs : List Entry) → None ≡ slice_get xs 0 → xs ≡ []
-comes-none [] h = refl
-comes-none (x ∷ xs) h = let z : ◌≡◌ {A = ℕ} 0 1 = cc in absurd (omega arith)
-
-pub judging-at : {table : List Row} {s : List ℕ} {es done todo : List Entry} {places : List (Option ℕ)} {ids stables : List ℕ} {twice : Bool} (next : List Entry) → Judging table s es done todo places ids stables twice → todo ≡ next → Judging table s es done next places ids stables twice
-judging-at {table} {s} {es} {done} {todo} {places} {ids} {stables} {twice} next j e = subst (λ (xs : List Entry). Judging table s es done xs places ids stables twice) e j
 
 -- the entry that comes next is one of the list
 pub judging-next : {table : List Row} {s : List ℕ} {es done : List Entry} {e : Entry} {rest : List Entry} {places : List (Option ℕ)} {ids stables : List ℕ} {twice : Bool} → Judging table s es done (e ∷ rest) places ids stables twice → slice_get es (length done) ≡ Some e

@@ -4,4 +4,4 @@ pub mod Listing
 pub mod Standing
 pub mod Judging
 mod Asking
-mod Leading
+mod Passing

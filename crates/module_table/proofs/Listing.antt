@@ -1,8 +1,11 @@
 -- What the places of a list tell of its entries.
 use Rattle.std.proofs.Common.{◌≡◌, ℕ, zero, suc, ◌+◌, ◌<◌, ◌≤◌, Bool, true, false, cond, not, ◌||◌, T, eqb, ltb, List, [], ◌∷◌, ◌++◌, length, get_or, set, is_some, Some, None, Option, sym, refl, ap, ◌∙◌, subst, ⊎_elim, arith, nltb→le, T_not, length-set}
 use lib.Dec.{eqb_refl}
+use Rattle.std.proofs.Math.Bool.{or-true, or-false, or_assoc}
+use Rattle.std.proofs.lemmas.Bool.Decides.{nat_tests}
+use Rattle.std.proofs.lemmas.Cmp.{nat_eq_equiv}
 use Rattle.std.specs.List.{slice_get}
-use Rattle.std.proofs.lemmas.List.{get_or-set_same, get_or-set_other, get_or_append_left, get_or_push, get_or_past, length_push}
+use Rattle.std.proofs.lemmas.List.{get_or-set_same, get_or-set_other, get_or_append_left, get_or_push, get_or_past, length_push, length-replicate}
 use Rattle.std.proofs.lemmas.Bool.{cases_eq, cases_lt, lt-ltb, le-ltb, eq-eqb, ne_eqb}
 use Rattle.rows.specs.Numbers.{any, member, repeats, total}
 use Rattle.rows.specs.Rows.{Row}
@@ -14,49 +17,21 @@ use Rattle.project.specs.Rescan.{placed, merged, rows_fault, numbers, rows_of}
 use Rattle.project.proofs.Placing.{tests, merged-longer}
 use Rattle.module_table.specs.Drafts.{blank, placing, places_by, read_row, place_row, given_by}
 
--- Tests.
-
-pub or_same : (a : Bool) → (a || true) ≡ true
-or_same true = refl
-or_same false = refl
-
-pub or-none : (a : Bool) → (a || false) ≡ a
-or-none true = refl
-or-none false = refl
-
-pub or_assoc : (a b c : Bool) → ((a || b) || c) ≡ (a || (b || c))
-or_assoc true b c = refl
-or_assoc false b c = refl
-
-pub or-across : (a b c d : Bool) → ((a || b) || (c || d)) ≡ ((a || c) || (b || d))
-or-across true b c d = refl
-or-across false true c d = sym (or_same c)
-or-across false false c d = refl
-
-pub eqb_swap : (m n : ℕ) → eqb m n ≡ eqb n m
-eqb_swap m n = ⊎_elim (λ h. eq-eqb m n h ∙ sym (eq-eqb n m (sym h))) (λ h. ne_eqb m n h ∙ sym (ne_eqb n m (λ e. h (sym e)))) (cases_eq m n)
-
 -- Numbers that repeat.
 
 -- one more number in a list
 pub member-push : (m : ℕ) (ns : List ℕ) (n : ℕ) → member m (ns ++ n ∷ []) ≡ (member m ns || eqb m n)
-member-push m [] n = or-none (eqb m n)
+member-push m [] n = or-false (eqb m n)
 member-push m (k ∷ ns) n = ap (λ b. eqb m k || b) (member-push m ns n) ∙ sym (or_assoc (eqb m k) (member m ns) (eqb m n))
 
 -- one more number repeats if it was there before
 pub repeats-push : (ns : List ℕ) (n : ℕ) → repeats (ns ++ n ∷ []) ≡ (repeats ns || member n ns)
 repeats-push [] n = refl
 repeats-push (m ∷ ns) n =
-    ap (λ b. b || repeats (ns ++ n ∷ [])) (member-push m ns n)
-    ∙ ap (λ b. (member m ns || eqb m n) || b) (repeats-push ns n)
-    ∙ or-across (member m ns) (eqb m n) (repeats ns) (member n ns)
-    ∙ ap (λ b. (member m ns || repeats ns) || (b || member n ns)) (eqb_swap m n)
+    let rest = repeats-push ns n in let more = member-push m ns n in let swap = nat_eq_equiv.symm m n in
+    grind (arith, nat_tests)
 
 -- Places.
-
-pub length-blank : (n : ℕ) → length (blank n) ≡ n
-length-blank zero = refl
-length-blank (suc n) = ap suc (length-blank n)
 
 pub blank-at : (n r : ℕ) → get_or (blank n) r None ≡ None
 blank-at zero r = refl
@@ -99,12 +74,12 @@ module _ (places : List (Option ℕ)) (e : Entry) (near : e.number ≤ length pl
       same : r ≡ e.number → is_some (get_or (placing places e) r None) ≡ (is_some (get_or places r None) || eqb r e.number)
       same h =
           ap (λ k. is_some (get_or (placing places e) k None)) h ∙ ap is_some placing-here
-          ∙ sym (ap (λ b. is_some (get_or places r None) || b) (eq-eqb r e.number h) ∙ or_same (is_some (get_or places r None)))
+          ∙ sym (ap (λ b. is_some (get_or places r None) || b) (eq-eqb r e.number h) ∙ or-true (is_some (get_or places r None)))
 
       apart : (r ≡ e.number → ⊥) → is_some (get_or (placing places e) r None) ≡ (is_some (get_or places r None) || eqb r e.number)
       apart h =
           ap is_some (placing-there r h)
-          ∙ sym (ap (λ b. is_some (get_or places r None) || b) (ne_eqb r e.number h) ∙ or-none (is_some (get_or places r None)))
+          ∙ sym (ap (λ b. is_some (get_or places r None) || b) (ne_eqb r e.number h) ∙ or-false (is_some (get_or places r None)))
 
 -- places and rows are as many before and after an entry
 pub placing-length : (table : List Row) (places : List (Option ℕ)) (e : Entry) → length places ≡ length table → length (placing places e) ≡ length (placed table e)
@@ -122,10 +97,10 @@ places-length table places (e ∷ es) same = places-length (placed table e) (pla
 
 -- there are as many places as rows
 pub listed-length : (table : List Row) (es : List Entry) → length (places_by (blank (length table)) es) ≡ length (merged table es)
-listed-length table es = places-length table (blank (length table)) es (length-blank (length table))
+listed-length table es = places-length table (blank (length table)) es (length-replicate (length table) None)
 
 pub places-listed : (table : List Row) (places : List (Option ℕ)) (es : List Entry) → length places ≡ length table → rows_fault table es ≡ None → (r : ℕ) → is_some (get_or (places_by places es) r None) ≡ (is_some (get_or places r None) || member r (numbers es))
-places-listed table places [] same h r = sym (or-none (is_some (get_or places r None)))
+places-listed table places [] same h r = sym (or-false (is_some (get_or places r None)))
 places-listed table places (e ∷ es) same h r =
     let t = tests table e es h in
     let near : e.number ≤ length places = (let n = t.0.near in omega arith) in
@@ -135,7 +110,7 @@ places-listed table places (e ∷ es) same h r =
 
 -- just the rows of the list have a place
 pub listed_at : (table : List Row) (es : List Entry) → rows_fault table es ≡ None → (r : ℕ) → is_some (get_or (places_by (blank (length table)) es) r None) ≡ member r (numbers es)
-listed_at table es h r = places-listed table (blank (length table)) es (length-blank (length table)) h r ∙ ap (λ o. is_some o || member r (numbers es)) (blank-at (length table) r)
+listed_at table es h r = places-listed table (blank (length table)) es (length-replicate (length table) None) h r ∙ ap (λ o. is_some o || member r (numbers es)) (blank-at (length table) r)
 
 -- where no row of the table is listed, the table grows unless nothing is
 pub listed-none : (table : List Row) (es : List Entry) → rows_fault table es ≡ None → T (not (any (λ n. ltb n (length table)) (numbers es))) → eqb (length (merged table es)) (length table) ≡ eqb (length (numbers es)) 0
@@ -191,5 +166,5 @@ blank-total f s (suc n) = let rest = blank-total f s n in omega arith
 -- the rows at the places count what the rows of the list do
 pub listed-total : (f : Row → ℕ) (s : List ℕ) (table : List Row) (es : List Entry) → rows_fault table es ≡ None → T (not (repeats (numbers es))) → ((k : ℕ) (e : Entry) → slice_get es k ≡ Some e → read_row (read_at s e.offset) ≡ Some e.row) → total (weigh f) (given_by s (places_by (blank (length table)) es)) ≡ total f (rows_of es)
 listed-total f s table es h once stand =
-    let all = places-total f s table (blank (length table)) es (length-blank (length table)) h once (λ n m. blank-at (length table) n) stand in
+    let all = places-total f s table (blank (length table)) es (length-replicate (length table) None) h once (λ n m. blank-at (length table) n) stand in
     omega (arith, blank-total f s (length table))

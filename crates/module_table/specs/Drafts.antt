@@ -1,19 +1,23 @@
 -- A list of rows laid over a table. For each number there is a place: the offset of the row's record in the list, or none.
-use Rattle.std.specs.Prelude.{ℕ, zero, suc, cond, List, [], ◌∷◌, ◌++◌, map, length, Some, None, Ok, Err, Option, Result, nat_lt, slice_set}
+use Rattle.std.specs.Prelude.{ℕ, cond, List, [], ◌∷◌, ◌++◌, map, length, replicate, Some, None, Ok, Err, Option, Result, nat_lt, slice_set}
 use Rattle.std.specs.Option.{option_map, unwrap_or}
 use Rattle.rows.specs.Rows.{Row, nowhere}
 use Rattle.packed_layout.specs.declared.faults.FaultAt.{FaultAt}
-use Rattle.packed_layout.specs.Layout.{Entry, row_of}
+use Rattle.packed_layout.specs.Layout.{Head, Entry, row_of}
+use Rattle.module_table.specs.declared.overlay.Overlay.{Overlay}
 use Rattle.packed.specs.Views.{read_at, outline_at, records_in}
 
 -- no row of a table is in the list yet
 abbrev pub blank : ℕ → List (Option ℕ)
-blank zero = []
-blank (suc n) = None ∷ blank n
+blank n = replicate n None
 
--- an entry gives its row a place: that of the row with its number, or one after the last
+-- a row is given a place: that of the row with its number, or one after the last
+abbrev pub put_at : List (Option ℕ) → ℕ → ℕ → List (Option ℕ)
+put_at places row offset = cond (nat_lt row (length places)) (slice_set places row (Some offset)) (places ++ Some offset ∷ [])
+
+-- an entry gives its row a place
 abbrev pub placing : List (Option ℕ) → Entry → List (Option ℕ)
-placing places e = cond (nat_lt e.number (length places)) (slice_set places e.number (Some e.offset)) (places ++ Some e.offset ∷ [])
+placing places e = put_at places e.number e.offset
 
 -- the places after a list of entries
 abbrev pub places_by : List (Option ℕ) → List Entry → List (Option ℕ)
@@ -31,14 +35,20 @@ abbrev pub place_row : List ℕ → Option ℕ → Option Row
 place_row s None = None
 place_row s (Some o) = read_row (read_at s o)
 
+-- the rows that the places give
 abbrev pub given_by : List ℕ → List (Option ℕ) → List (Option Row)
 given_by s places = map (place_row s) places
+
+-- the row that the fields of an outline make
+abbrev pub outline_row : Head × (ℕ × List ℕ) → Row
+outline_row h = (row_of h.0 (records_in h.1.0 h.1.1)).1
 
 -- the same by a glance, for which the record is not checked again
 abbrev pub glance_row : List ℕ → Option ℕ → Option Row
 glance_row s None = None
-glance_row s (Some o) = option_map (λ h. (row_of h.0 (records_in h.1.0 h.1.1)).1) (outline_at s o)
+glance_row s (Some o) = option_map outline_row (outline_at s o)
 
+-- the rows that the places give, by a glance
 abbrev pub glanced_by : List ℕ → List (Option ℕ) → List (Option Row)
 glanced_by s places = map (glance_row s) places
 
@@ -52,3 +62,7 @@ overlay (r ∷ rs) (g ∷ gs) = unwrap_or g r ∷ overlay rs gs
 -- the table as the list has it so far, by a glance
 abbrev pub drafted : List Row → List ℕ → List (Option ℕ) → List Row
 drafted table s places = overlay table (glanced_by s places)
+
+-- the rows of an overlay, given what rows a table means
+abbrev pub overlaid : {G : Type 0} → (G → List Row) → Overlay G → List Row
+overlaid rows o = drafted (rows o.table.now) o.bytes.now o.places.now

@@ -5,4 +5,5 @@ mod asked;
 mod judge;
 mod links;
 pub mod overlay;
+pub mod places;
 pub mod scratch;

@@ -1,112 +1,115 @@
 // A list of rows laid over a table, as far as the list has been gone through.
-ghost use Rattle.std.specs.Prelude.{◌≡◌, map, None, slice_index_or};
+ghost use Rattle.std.specs.Prelude.{◌≡◌, List, None, slice_index_or};
 ghost use Rattle.std.specs.Option.{option_map};
-ghost use Rattle.std.specs.Str.{bytes_eq};
+ghost use Rattle.rows.specs.declared.ImportRecord.{ImportRecord};
 ghost use Rattle.rows.specs.Rows.{at};
-ghost use Rattle.packed.specs.Views.{shown};
+ghost use Rattle.packed_layout.specs.Layout.{row_of};
+ghost use Rattle.packed.specs.Views.{head_in, shown, glanced};
 ghost use Rattle.project.specs.Rescan.{keeps};
-ghost use Rattle.module_table.specs.Drafts.{glanced_by, drafted};
+ghost use Rattle.module_table.specs.Names.{name_of, names_of};
+ghost use Rattle.module_table.specs.Drafts.{glanced_by, overlaid};
 
+use crate::places::Places;
 use name_order::Names;
 use packed::read::glance_at;
-use packed::view::RowView;
+use packed::view::{Outline, RowHead, RowView};
 use rows::Sort;
 use rows::graph::Graph;
 
-// The table, the bytes of the list, and where the record of each row begins in them.
-#[derive(Drop)]
-pub struct Overlay<'t, 'b, 'p, G> {
-    pub(crate) table: &'t G,
-    pub(crate) bytes: &'b [u8],
-    pub(crate) places: &'p [Option<usize>],
+// Which of the two names of a row is meant.
+#[derive(Clone, Copy, Debug, PartialEq, Eq)]
+pub enum NameKind {
+    Id,
+    StableId,
 }
 
-impl<G: Graph> Overlay<'_, '_, '_, G> {
-    // The row of a number, if the list has it.
-    fn glance(&self, row: u16) -> Option<RowView<'_>>
-        ensures { option_map (λ v. (shown v).1) result ≡ slice_index_or (glanced_by self.now.bytes.now self.now.places.now) row None }
+impl NameKind {
+    // The name in the head of a row, whatever import records follow it.
+    fn in_head<'a>(self, head: &RowHead<'a>) -> &'a [u8]
+        ensures { (records : List ImportRecord) → result.now ≡ name_of self (row_of (head_in head.now) records).1 }
     {
-        let place = usize::from(row);
-        if place >= self.places.len() {
-            return None;
+        match self {
+            NameKind::Id => head.id,
+            NameKind::StableId => head.stable_id,
         }
-        let offset = self.places[place]?;
+    }
+
+    // The name of a row of a graph; empty where there is no such row.
+    #[tactic(auto, using(crate::proofs::Overlays::lent_at, crate::proofs::Overlays::unnamed))]
+    fn in_graph<G: Graph>(self, table: &G, row: u16) -> &[u8]
+        ensures { result.now ≡ name_of self (at (G.rows table.now) row) }
+    {
+        let name = match self {
+            NameKind::Id => table.id(row),
+            NameKind::StableId => table.stable_id(row),
+        };
+        name.unwrap_or(&[])
+    }
+}
+
+// The table, the bytes of the list, and where the record of each row begins in them.
+#[derive_where(Clone, Copy)]
+pub struct Overlay<'a, G> {
+    pub(crate) table: &'a G,
+    pub(crate) bytes: &'a [u8],
+    pub(crate) places: &'a Places,
+}
+
+impl<'a, G: Graph> Overlay<'a, G> {
+    // The row of a number, if the list has it.
+    fn glance(&self, row: u16) -> Option<Outline<'_>>
+        ensures { option_map (λ o. (glanced o).1) result ≡ slice_index_or (glanced_by self.now.bytes.now self.now.places.now) row None }
+    {
+        let offset = self.places.get(usize::from(row))?;
         glance_at(self.bytes, offset)
     }
 
-    fn id(&self, row: u16) -> &[u8]
-        ensures { result.now ≡ (at (drafted (G.Graph.rows self.now.table.now) self.now.bytes.now self.now.places.now) row).id }
+    #[tactic(auto, using(crate::proofs::Overlays::at_overlay))]
+    fn name(&self, kind: NameKind, row: u16) -> &[u8]
+        ensures { result.now ≡ name_of kind (at (overlaid G.rows self.now) row) }
     {
         match self.glance(row) {
-            Some(view) => view.head.id,
-            None => match self.table.id(row) {
-                Some(id) => id,
-                None => &[],
-            },
+            Some(outline) => kind.in_head(&outline.head),
+            None => kind.in_graph(self.table, row),
         }
     }
 
-    fn stable_id(&self, row: u16) -> &[u8]
-        ensures { result.now ≡ (at (drafted (G.Graph.rows self.now.table.now) self.now.bytes.now self.now.places.now) row).stable_id }
-    {
-        match self.glance(row) {
-            Some(view) => view.head.stable_id,
-            None => match self.table.stable_id(row) {
-                Some(stable_id) => stable_id,
-                None => &[],
-            },
-        }
-    }
-
+    #[tactic(auto, using(crate::proofs::Overlays::at_overlay))]
     fn sort(&self, row: u16) -> Sort
-        ensures { result ≡ (at (drafted (G.Graph.rows self.now.table.now) self.now.bytes.now self.now.places.now) row).sort }
+        ensures { result ≡ (at (overlaid G.rows self.now) row).sort }
     {
         match self.glance(row) {
-            Some(view) => view.head.sort,
-            None => match self.table.facts(row) {
-                Some(facts) => facts.sort,
-                None => Sort::External,
-            },
+            Some(outline) => outline.head.facts.sort,
+            None => self
+                .table
+                .facts(row)
+                .map_or(Sort::External, |facts| facts.sort),
         }
     }
 
     // Whether a row has the names and the sort of the row of its number.
     pub(crate) fn is_kept_by(&self, row: &RowView<'_>) -> bool
-        ensures { result ≡ keeps (at (drafted (G.Graph.rows self.now.table.now) self.now.bytes.now self.now.places.now) row.now.head.number) (shown row.now).1 }
+        ensures { result ≡ keeps (at (overlaid G.rows self.now) row.now.head.number) (shown row.now).1 }
     {
         let head = row.head;
-        same_bytes(self.id(head.number), head.id)
-            && same_bytes(self.stable_id(head.number), head.stable_id)
-            && self.sort(head.number) == head.sort
+        self.name(NameKind::Id, head.number) == head.id
+            && self.name(NameKind::StableId, head.number) == head.stable_id
+            && self.sort(head.number) == head.facts.sort
     }
 }
 
-fn same_bytes(a: &[u8], b: &[u8]) -> bool
-    ensures { result ≡ bytes_eq a.now b.now }
-{
-    a == b
+// The rows of an overlay by one of their names.
+#[derive_where(Clone, Copy)]
+pub struct ByName<'a, G> {
+    pub(crate) overlay: Overlay<'a, G>,
+    pub(crate) kind: NameKind,
 }
 
-// The rows by id.
-#[derive(Drop)]
-pub struct Ids<'t, 'b, 'p, G>(pub(crate) Overlay<'t, 'b, 'p, G>);
+impl<G: Graph> Names for ByName<'_, G> {
+    ghost names = { λ n. names_of n.kind (overlaid G.rows n.overlay) };
 
-impl<G: Graph> Names for Ids<'_, '_, '_, G> {
-    ghost names = { λ n. map (λ r. r.id) (drafted (G.Graph.rows n.0.table.now) n.0.bytes.now n.0.places.now) };
-
+    #[tactic(auto, using(crate::proofs::Overlays::named_at))]
     fn name(&self, row: u16) -> &[u8] {
-        self.0.id(row)
-    }
-}
-
-// The rows by stable id.
-#[derive(Drop)]
-pub struct StableIds<'t, 'b, 'p, G>(pub(crate) Overlay<'t, 'b, 'p, G>);
-
-impl<G: Graph> Names for StableIds<'_, '_, '_, G> {
-    ghost names = { λ n. map (λ r. r.stable_id) (drafted (G.Graph.rows n.0.table.now) n.0.bytes.now n.0.places.now) };
-
-    fn name(&self, row: u16) -> &[u8] {
-        self.0.stable_id(row)
+        self.overlay.name(self.kind, row)
     }
 }

@@ -1,14 +1,11 @@
-// Memory for judging a list. It is sized by what a row number can be, and not by the room of the
-// table, so that a list which is longer than the room is still judged to its end.
-use name_order::Order;
+// Memory for judging a list.
+use crate::asked::Marks;
+use crate::judge::Draft;
 
 #[derive(Drop)]
 pub struct Scratch {
-    // for each row number, where its record begins, if the list has it
-    pub(crate) places: Vec<Option<usize>>,
+    // the rows of the table, with those of the list
+    pub(crate) draft: Draft,
     // which rows of the table were touched
-    pub(crate) marks: Vec<bool>,
-    // the rows by id and by stable id, with those of the list
-    pub(crate) ids: Order,
-    pub(crate) stable_ids: Order,
+    pub(crate) marks: Marks,
 }

@@ -50,7 +50,7 @@ module _ (names : List (List ℕ)) where
   pub by_name : Apart names → ByName names (ordered names)
   by_name apart =
       record {
-        rises = rising-at (named names) (ordered names) (arranged-rises apart (length names) (omega arith));
+        rises = rising-at (named names) (ordered names) 0 (arranged-rises apart (length names) (omega arith));
         complete = λ r. ⊎_elim (λ (l : r < length names). arranged-has (length names) r l ∙ sym (lt-ltb r (length names) l)) (λ (l : length names ≤ r). outside r l ∙ sym (le-ltb r (length names) l)) (cases_lt r (length names));
         once = arranged-long (length names);
       }

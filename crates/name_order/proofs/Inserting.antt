@@ -1,6 +1,6 @@
 -- What a row that takes its place adds, and what it leaves.
 use Rattle.std.proofs.Common.{◌≡◌, ℕ, suc, ◌<◌, Bool, true, false, cond, eqb, ltb, List, [], ◌∷◌, length, refl, ap, ◌∙◌, ⊎_elim}
-use Rattle.std.proofs.lemmas.Bool.{and_parts, and_from, or_cases, or_left, or_right, eq-eqb, ltb-true, cases_Bool}
+use Rattle.std.proofs.lemmas.Bool.{and_parts, and_from, or_cases, or_left, or_right, eq-eqb, ltb-true}
 use Rattle.rows.specs.Numbers.{all_of, member}
 use Rattle.name_order.specs.Orders.{before?, insert_by}
 use Rattle.name_order.proofs.ByteOrder.{before-trans, before-total}
@@ -36,11 +36,6 @@ module _ (key : ℕ → List ℕ) (r : ℕ) where
       elim (before? (key r) (key q)) as (λ b. member r (cond b (r ∷ q ∷ qs) (q ∷ insert_by key r qs)) ≡ true)
       [ true ↦ or_left (eqb r r) _ (eq-eqb r r refl) | false ↦ or_right (eqb r q) _ (member-new qs) ]
 
-  -- of two names that differ one is before the other
-  pub other_way : (q : ℕ) → (key q ≡ key r → ⊥) → before? (key r) (key q) ≡ false → before? (key q) (key r) ≡ true
-  other_way q apart e =
-      ⊎_elim (λ (h : before? (key q) (key r) ≡ true). h) (λ (h : before? (key q) (key r) ≡ false). let z : ⊥ = apart (before-total (key q) (key r) h e) in absurd z) (cases_Bool (before? (key q) (key r)))
-
   rise : (q : ℕ) (qs : List ℕ) (b : Bool) → before? (key r) (key q) ≡ b → (key q ≡ key r → ⊥) → rising key (q ∷ qs) ≡ true → rising key (insert_by key r qs) ≡ true
       → rising key (cond b (r ∷ q ∷ qs) (q ∷ insert_by key r qs)) ≡ true
   rise q qs true e apart w rec =
@@ -48,7 +43,7 @@ module _ (key : ℕ → List ℕ) (r : ℕ) where
       and_from _ _ (and_from _ _ e (all_weaker (λ x. before? (key q) (key x)) (λ x. before? (key r) (key x)) (λ x h. before-trans (key r) (key q) (key x) e h) qs p.0)) w
   rise q qs false e apart w rec =
       let p = and_parts (all_of (λ x. before? (key q) (key x)) qs) _ w in
-      and_from _ _ (all_insert (λ x. before? (key q) (key x)) qs (other_way q apart e) p.0) rec
+      and_from _ _ (all_insert (λ x. before? (key q) (key x)) qs (before-total (key q) (key r) apart e) p.0) rec
 
   -- the names still rise, if no row has the name
   pub rising-insert : (n : ℕ) (xs : List ℕ) → ((q : ℕ) → q < n → key q ≡ key r → ⊥) → all_of (λ q. ltb q n) xs ≡ true → rising key xs ≡ true → rising key (insert_by key r xs) ≡ true

@@ -1,22 +1,20 @@
 -- Rows in the byte order of their names.
-use Rattle.std.specs.Prelude.{◌≡◌, ℕ, zero, suc, ◌<◌, Bool, true, false, cond, ◌&&◌, ◌||◌, List, [], ◌∷◌, ◌++◌, length, Some, None, Ok, Err, Option, Result, ◌==◌, nat_lt, slice_index, slice_index_or}
-use Rattle.std.specs.declared.cmp.Ordering.TheVariants.{Less, Equal, Greater}
+use Rattle.std.specs.Prelude.{◌≡◌, ℕ, zero, suc, ◌<◌, Bool, true, cond, List, [], ◌∷◌, ◌++◌, length, Some, None, Ok, Err, Option, Result, nat_lt, slice_index, slice_index_or}
 use Rattle.std.specs.declared.cmp.Ordering.{Ordering}
+use Rattle.std.specs.Ordering.{nat_cmp, is_lt}
+use Rattle.std.specs.Cmp.Lexicographic.{slice_cmp}
 use Rattle.std.specs.Option.{option_map}
 use Rattle.std.specs.List.{insert}
 use Rattle.rows.specs.Numbers.{member}
 use Rattle.std.specs.Str.{bytes_eq}
 
--- whether one name is before another: the first byte that differs decides, and a name is before those that it begins
-abbrev pub before? : List ℕ → List ℕ → Bool
-before? [] [] = false
-before? [] (y ∷ ys) = true
-before? (x ∷ xs) [] = false
-before? (x ∷ xs) (y ∷ ys) = nat_lt x y || (x == y && before? xs ys)
-
--- how one name stands to another
+-- how one name stands to another: the first byte that differs decides, and a name is before those that it begins
 abbrev pub compared : List ℕ → List ℕ → Ordering
-compared xs ys = cond (before? xs ys) Less (cond (before? ys xs) Greater Equal)
+compared = slice_cmp nat_cmp
+
+-- whether one name is before another
+abbrev pub before? : List ℕ → List ℕ → Bool
+before? xs ys = is_lt (compared xs ys)
 
 -- the name of a row, given the names of all rows; empty where there is no such row
 abbrev pub named : List (List ℕ) → ℕ → List ℕ

@@ -19,7 +19,7 @@ pub trait Names {
 }
 
 // The name is another row's.
-#[derive(Clone, Copy)]
+#[derive(Clone, Copy, Debug, PartialEq, Eq)]
 pub struct Taken;
 
 // Rows in the order of their names. The memory for all of them is reserved at once.

@@ -1,18 +1,13 @@
 // What can be done with an order: a name is looked up, and the next row is given its place.
-ghost use Rattle.std.specs.Prelude.{◌≡◌, ◌<◌, ◌≤◌, [], ◌∷◌, ◌++◌, length, is_some, is_ok, IfOk, if◌then◌else◌, Ok, Err, vec_len, MatchResult};
-ghost use Rattle.name_order.specs.Orders.{compared, number_of, ordered, IsOrder, Located, OrdersAreByName};
+ghost use Rattle.std.specs.Prelude.{◌≡◌, [], ◌∷◌, ◌++◌, length, is_some, is_ok, IfOk, if◌then◌else◌, Ok, Err, vec_len};
+ghost use Rattle.std.specs.List.Sorted.{IsSearchInRange};
+ghost use Rattle.name_order.specs.Orders.{number_of, ordered, IsOrder, Located, OrdersAreByName};
 ghost use Rattle.name_order.specs.Listed.{listed, reserved, taken};
 
 use crate::{MOST_ROWS, Names, Order, Taken};
 use std::alloc::{AllocError, Global};
-use std::cmp::Ordering;
 
-fn compare(a: &[u8], b: &[u8]) -> Ordering
-    ensures { result ≡ compared a.now b.now }
-{
-    a.cmp(&b)
-}
-
+// That an order goes with the names is a premise of the clauses, since a ghost field would demand it of each caller.
 impl Order {
     // An order with no rows, with memory for as many as row numbers can tell apart.
     pub fn reserve(heap: Global) -> Result<Order, AllocError>
@@ -31,48 +26,32 @@ impl Order {
 
     // Where a name stands: at the row that has it, or else where the next row would stand with it.
     fn locate<N: Names>(&self, names: &N, name: &[u8]) -> Result<usize, usize>
-        ensures within { MatchResult result (λ i. i < vec_len self.now.rows) (λ i. i ≤ vec_len self.now.rows) }
-        ensures located { IsOrder (N.Names.names names.now) (listed self.now) → Located (N.Names.names names.now) name.now (listed self.now) result }
+        ensures within { IsSearchInRange result (vec_len self.now.rows) }
+        ensures located { IsOrder (N.names names.now) (listed self.now) → Located (N.names names.now) name.now (listed self.now) result }
     {
-        let mut low = 0;
-        let mut high = self.rows.len();
-        while low < high {
-            let mid = low + (high - low) / 2;
-            let row = self.rows[mid];
-            match compare(names.name(row), name) {
-                Ordering::Less => low = mid + 1,
-                Ordering::Greater => high = mid,
-                Ordering::Equal => return Ok(mid),
-            }
-        }
-        Err(low)
+        self.rows
+            .binary_search_by(|row| names.name(*row).cmp(&name))
     }
 
     // The row that has a name.
     pub fn find<N: Names>(&self, names: &N, name: &[u8]) -> Option<u16>
-        ensures { IsOrder (N.Names.names names.now) (listed self.now) → result ≡ number_of name.now (N.Names.names names.now) }
+        ensures { IsOrder (N.names names.now) (listed self.now) → result ≡ number_of name.now (N.names names.now) }
     {
-        match self.locate(names, name) {
-            Ok(place) => Some(self.rows[place]),
-            Err(_) => None,
-        }
+        self.locate(names, name).ok().map(|place| self.rows[place])
     }
 
     // Gives the next row its place, unless its name is taken.
     pub fn insert<N: Names>(&mut self, names: &N, row: u16, name: &[u8]) -> Result<(), Taken>
-        ensures answer { IsOrder (N.Names.names names.now) (listed self.old) → row ≡ length (N.Names.names names.now) → result ≡ (if is_some (number_of name.now (N.Names.names names.now)) then Err taken else Ok tt) }
-        ensures after { IsOrder (N.Names.names names.now) (listed self.old) → row ≡ length (N.Names.names names.now) → listed self.new ≡ (if is_ok result then ordered (N.Names.names names.now ++ name.now ∷ []) else listed self.old) }
+        ensures answer { IsOrder (N.names names.now) (listed self.old) → row ≡ length (N.names names.now) → result ≡ (if is_some (number_of name.now (N.names names.now)) then Err taken else Ok tt) }
+        ensures after { IsOrder (N.names names.now) (listed self.old) → row ≡ length (N.names names.now) → listed self.new ≡ (if is_ok result then ordered (N.names names.now ++ name.now ∷ []) else listed self.old) }
         ensures sized { reserved self.new ≡ reserved self.old }
     {
-        let Err(place) = self.locate(names, name) else {
-            return Err(Taken);
-        };
+        let place = self.locate(names, name).err().ok_or(Taken)?;
         // With all row numbers given out there is no next row. Short of that there is memory for it.
         if self.rows.len() >= MOST_ROWS {
             return Err(Taken);
         }
-        let _ = self.rows.insert(place, row);
-        Ok(())
+        self.rows.insert(place, row).map_err(|_| Taken)
     }
 
     // Takes over the rows of another order.
@@ -81,15 +60,14 @@ impl Order {
         ensures sized { reserved self.new ≡ reserved self.old }
     {
         self.rows.clear();
-        for row in other.rows.as_slice() {
+        // Pushed one by one: `extend_from_slice` does not promise that the capacity stays as it is.
+        for row in other.rows() {
             self.rows.push_reserved(*row);
         }
     }
 }
 
 // An order has all rows, each once, and each has a name before the names of those that follow it.
-pub fn law_of_orders() -> u8
+pub fn law_of_orders()
     ensures { OrdersAreByName }
-{
-    0
-}
+{}

@@ -9,7 +9,7 @@ use Rattle.packed_layout.specs.declared.faults.FaultAt.{FaultAt}
 use Rattle.packed_layout.specs.Codec.{when, text, number}
 use Rattle.packed_layout.specs.Records.{Kinds, header, first_record}
 use Rattle.packed_layout.specs.Layout.{Entry, entry, rows}
-use Rattle.packed.specs.Views.{placed, read_at}
+use Rattle.packed.specs.Views.{placed, sized, read_at}
 use Rattle.packed_layout.proofs.Codecs.{when-some, bind-some, some_inj}
 use Rattle.packed_layout.proofs.Framing.{passed, ok-inj}
 
@@ -53,19 +53,21 @@ record-taken {A} K s r e =
     passed (read payload) BrokenLayout _ r e4 λ a is e5.
     subst (λ (q : A × ℕ × List ℕ). Taken s q.1 q.2) (ok-inj e5) (record { some = omega arith; follows = joins 6 x.0.0 s x.1 p.1 (header-follows s x head) (text-follows x.0.0 x.1 p body) })
 
-pub at_here : (s : List ℕ) (offset : ℕ) (r : Result ((ℕ × Row) × ℕ × List ℕ) RecordFault) → offset < length s → r ≡ first_record rows (take (length s - offset) (drop offset s)) → placed offset r ≡ read_at s offset
-at_here s offset r h e =
-    ap (placed offset) (e ∙ ap (first_record rows) (take_rest s offset)) ∙ sym (cond-false (leb (length s) offset) (Ok None) (placed offset (first_record rows (drop offset s))) (lt-leb (length s) offset h))
-
--- the sum of an offset and the size of the record there
-pub next_fits : (s : List ℕ) (offset : ℕ) (r : (ℕ × Row) × ℕ × List ℕ) → offset < length s → Ok r ≡ first_record rows (take (length s - offset) (drop offset s)) → offset + r.1 ≤ length s
-next_fits s offset r h e =
-    let t = record-taken rows (drop offset s) r (sym (e ∙ ap (first_record rows) (take_rest s offset))) in
-    let w : r.1 ≤ length (drop offset s) = t.follows.within in
-    omega (arith, length-drop offset s)
-
 ok-err : {A B : Type 0} (x : A) (y : B) → ◌≡◌ {A = Result A B} (Ok x) (Err y) → ⊥
 ok-err x y e = let z : ◌≡◌ {A = ℕ} 0 1 = cc in omega arith
+
+fits-by : (s : List ℕ) (offset : ℕ) (p : (ℕ × Row) × ℕ) → offset < length s → (r : Result ((ℕ × Row) × ℕ × List ℕ) RecordFault) → first_record rows (drop offset s) ≡ r → Ok p ≡ sized r → offset + p.1 ≤ length s
+fits-by s offset p h (Ok r) q e =
+    let t = record-taken rows (drop offset s) r q in
+    let w : r.1 ≤ length (drop offset s) = t.follows.within in
+    let same : p ≡ (r.0, r.1) = ok-inj e in
+    let size : p.1 ≡ r.1 = ap (λ (x : (ℕ × Row) × ℕ). x.1) same in
+    omega (arith, length-drop offset s)
+fits-by s offset p h (Err fault) q e = absurd (ok-err p fault e)
+
+-- the sum of an offset and the size of the record there
+pub next_fits : (s : List ℕ) (offset : ℕ) (p : (ℕ × Row) × ℕ) → offset < length s → Ok p ≡ sized (first_record rows (take (length s - offset) (drop offset s))) → offset + p.1 ≤ length s
+next_fits s offset p h e = fits-by s offset p h (first_record rows (drop offset s)) refl (e ∙ ap (λ t. sized (first_record rows t)) (take_rest s offset))
 
 some-none : (p : Entry × ℕ) → ◌≡◌ {A = Result (Option (Entry × ℕ)) FaultAt} (Ok (Some p)) (Ok None) → ⊥
 some-none p e = let z : ◌≡◌ {A = ℕ} 0 1 = cc in omega arith

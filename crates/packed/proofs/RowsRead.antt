@@ -1,23 +1,14 @@
 -- The row in a payload, by what a glance at it shows.
-use Rattle.std.proofs.Common.{◌≡◌, ℕ, zero, suc, Bool, true, false, ◌||◌, List, [], ◌∷◌, length, is_some, Some, None, Option, sym, refl, ap, ◌∙◌}
-use Rattle.std.specs.Option.{option_map}
-use Rattle.std.proofs.lemmas.Bool.{false≢true}
+use Rattle.std.proofs.Common.{◌≡◌, ℕ, Bool, true, false, ◌||◌, List, [], ◌∷◌, length, is_some, Some, None, Option, sym, refl, ap, ◌∙◌}
 use Rattle.rows.specs.declared.ImportRecord.{ImportRecord}
 use Rattle.rows.specs.Rows.{Row, is_normal_sort}
-use Rattle.packed.specs.declared.view.RowView.{RowView}
-use Rattle.packed_layout.specs.Codec.{Codec, bind, when, alone, read_times, read_whole}
+use Rattle.packed.specs.declared.view.Outline.{Outline}
+use Rattle.packed_layout.specs.Codec.{bind, when, alone, read_times, read_whole}
 use Rattle.packed_layout.specs.Layout.{Head, head, count, import_record, import_records, row_of, row, bare, allowed}
-use Rattle.packed.specs.Views.{outline, outlined, shown, Whole}
+use Rattle.packed.specs.Imports.{Whole}
+use Rattle.packed.specs.Views.{head_in, outline, outlined, glanced}
 use Rattle.packed_layout.proofs.Codecs.{never, some_inj, bind-some}
-use Rattle.packed.proofs.Imports.{whole}
-
--- as many records as were asked for
-pub times-length : {A : Type 0} (c : Codec A) (n : ℕ) (s : List ℕ) (p : List A × List ℕ) → read_times c n s ≡ Some p → length p.0 ≡ n
-times-length c zero s p e = ap (λ q. length q.0) (sym (some_inj e))
-times-length c (suc n) s p e =
-    let a = bind-some (c.read s) _ p e in
-    let b = bind-some (read_times c n a.0.1) _ p a.2 in
-    ap (λ q. length q.0) (sym (some_inj b.2)) ∙ ap suc (times-length c n a.0.1 b.0 b.1)
+use Rattle.packed.proofs.Imports.{whole, listed, times-length}
 
 -- what the import records make of the head, and whether the row is allowed
 abbrev judged : Head → List ImportRecord × List ℕ → Option (ℕ × Row)
@@ -68,47 +59,71 @@ row_from s h n t e =
     let same : (a.0.0, (b.0.0, b.0.1)) ≡ (h, (n, t)) = some_inj b.2 in
     ap after_head a.1 ∙ ap (after_count a.0.0) b.1 ∙ ap (λ (x : Head × (ℕ × List ℕ)). after_records x.0 (read_times import_record x.1.0 x.1.1)) same
 
-abbrev listed : Option (List ImportRecord × List ℕ) → List ImportRecord
-listed o = elim o [ None ↦ [] | Some p ↦ p.0 ]
+when-is : (b : Bool) (p q : ℕ × Row) → when b p ≡ Some q → p ≡ q
+when-is true p q e = some_inj e
+when-is false p q e = never _ e
 
-module _ (s : List ℕ) (v : RowView) (e : Some (outlined v) ≡ outline s) where
-  from : read_whole row s ≡ after_records (outlined v).0 (read_times import_record v.count v.imports.now)
-  from = row_from s (outlined v).0 v.count v.imports.now (sym e)
+module _ (s : List ℕ) (o : Outline) (e : Some (outlined o) ≡ outline s) where
+  abbrev fields : Head
+  fields = head_in o.head
 
   abbrev Allowed : Bool
-  Allowed = is_normal_sort v.head.sort || bare v.head.flags v.head.exports v.count
+  Allowed = is_normal_sort o.head.facts.sort || bare o.head.facts.flags o.head.facts.exports o.count
 
-  read_by : (o : Option (List ImportRecord × List ℕ)) → read_times import_record v.count v.imports.now ≡ o → true ≡ Allowed → true ≡ is_some (bind o alone) → Some (row_of (outlined v).0 (listed o)) ≡ after_records (outlined v).0 o
-  read_by None q ok w = absurd (false≢true (sym w))
-  read_by (Some (es, b ∷ bs)) q ok w = absurd (false≢true (sym w))
-  read_by (Some (es, [])) q ok w =
-      let h = (outlined v).0 in
-      let long : length es ≡ v.count = times-length import_record v.count v.imports.now (es, []) q in
-      let good : true ≡ allowed (row_of h es).1 = ok ∙ ap (λ n. is_normal_sort v.head.sort || bare v.head.flags v.head.exports n) (sym long) in
-      sym (records-judged h (es, []) ∙ ap (λ b. when b (row_of h es)) (sym good))
+  from : read_whole row s ≡ after_records fields (read_times import_record o.count o.imports.now)
+  from = row_from s fields o.count o.imports.now (sym e)
 
-  pub row_read : true ≡ Allowed → true ≡ is_some (whole v.count v.imports.now) → Some (shown v) ≡ read_whole row s
-  row_read ok w = read_by (read_times import_record v.count v.imports.now) refl ok w ∙ sym from
+  read_by : (r : Option (List ImportRecord × List ℕ)) → read_times import_record o.count o.imports.now ≡ r → true ≡ Allowed → (es : List ImportRecord) → Some es ≡ bind r alone → Some (row_of fields es) ≡ after_records fields r
+  read_by None q ok es w = never _ (sym w)
+  read_by (Some (xs, b ∷ bs)) q ok es w = never _ (sym w)
+  read_by (Some (xs, [])) q ok es w =
+      let long : length xs ≡ o.count = times-length import_record o.count o.imports.now (xs, []) q in
+      let good : true ≡ allowed (row_of fields xs).1 = ok ∙ ap (λ n. is_normal_sort o.head.facts.sort || bare o.head.facts.flags o.head.facts.exports n) (sym long) in
+      ap (λ ys. Some (row_of fields ys)) (some_inj w) ∙ sym (records-judged fields (xs, []) ∙ ap (λ b. when b (row_of fields xs)) (sym good))
 
-  broken-by : (o : Option (List ImportRecord × List ℕ)) → false ≡ is_some (bind o alone) → None ≡ after_records (outlined v).0 o
+  -- an allowed row whose last bytes are import records
+  pub row_read : true ≡ Allowed → (es : List ImportRecord) → Some es ≡ whole o.count o.imports.now → Some (row_of fields es) ≡ read_whole row s
+  row_read ok es w = read_by (read_times import_record o.count o.imports.now) refl ok es w ∙ sym from
+
+  broken-by : (r : Option (List ImportRecord × List ℕ)) → None ≡ bind r alone → None ≡ after_records fields r
   broken-by None w = refl
-  broken-by (Some (es, [])) w = absurd (false≢true w)
-  broken-by (Some (es, b ∷ bs)) w = sym (records-judged (outlined v).0 (es, b ∷ bs))
+  broken-by (Some (es, [])) w = never _ w
+  broken-by (Some (es, b ∷ bs)) w = sym (records-judged fields (es, b ∷ bs))
 
-  pub row-broken : false ≡ is_some (whole v.count v.imports.now) → None ≡ read_whole row s
-  row-broken w = broken-by (read_times import_record v.count v.imports.now) w ∙ sym from
+  -- its last bytes are no import records
+  pub row-broken : None ≡ whole o.count o.imports.now → None ≡ read_whole row s
+  row-broken w = broken-by (read_times import_record o.count o.imports.now) w ∙ sym from
 
-  barred-by : (o : Option (List ImportRecord × List ℕ)) → read_times import_record v.count v.imports.now ≡ o → false ≡ Allowed → None ≡ after_records (outlined v).0 o
+  barred-by : (r : Option (List ImportRecord × List ℕ)) → read_times import_record o.count o.imports.now ≡ r → false ≡ Allowed → None ≡ after_records fields r
   barred-by None q no_row = refl
-  barred-by (Some (es, b ∷ bs)) q no_row = sym (records-judged (outlined v).0 (es, b ∷ bs))
+  barred-by (Some (es, b ∷ bs)) q no_row = sym (records-judged fields (es, b ∷ bs))
   barred-by (Some (es, [])) q no_row =
-      let h = (outlined v).0 in
-      let long : length es ≡ v.count = times-length import_record v.count v.imports.now (es, []) q in
-      let bad : false ≡ allowed (row_of h es).1 = no_row ∙ ap (λ n. is_normal_sort v.head.sort || bare v.head.flags v.head.exports n) (sym long) in
-      sym (records-judged h (es, []) ∙ ap (λ b. when b (row_of h es)) (sym bad))
+      let long : length es ≡ o.count = times-length import_record o.count o.imports.now (es, []) q in
+      let bad : false ≡ allowed (row_of fields es).1 = no_row ∙ ap (λ n. is_normal_sort o.head.facts.sort || bare o.head.facts.flags o.head.facts.exports n) (sym long) in
+      sym (records-judged fields (es, []) ∙ ap (λ b. when b (row_of fields es)) (sym bad))
 
+  -- a row that is not allowed
   pub row-barred : false ≡ Allowed → None ≡ read_whole row s
-  row-barred no_row = barred-by (read_times import_record v.count v.imports.now) refl no_row ∙ sym from
+  row-barred no_row = barred-by (read_times import_record o.count o.imports.now) refl no_row ∙ sym from
+
+  -- what an outline shows of a payload that is read
+
+  module _ (value : ℕ × Row) (q : read_whole row s ≡ Some value) where
+    shown_by : (r : Option (List ImportRecord × List ℕ)) → after_records fields r ≡ Some value → row_of fields (listed r) ≡ value
+    shown_by None p = never _ p
+    shown_by (Some (es, [])) p = when-is (allowed (row_of fields es).1) (row_of fields es) value (sym (records-judged fields (es, [])) ∙ p)
+    shown_by (Some (es, b ∷ bs)) p = never _ (sym (records-judged fields (es, b ∷ bs)) ∙ p)
+
+    pub row-shown : glanced o ≡ value
+    row-shown = shown_by (read_times import_record o.count o.imports.now) (sym from ∙ q)
+
+    whole_by : (r : Option (List ImportRecord × List ℕ)) → after_records fields r ≡ Some value → is_some (bind r alone) ≡ true
+    whole_by None p = never _ p
+    whole_by (Some (es, [])) p = refl
+    whole_by (Some (es, b ∷ bs)) p = never _ (sym (records-judged fields (es, b ∷ bs)) ∙ p)
+
+    pub row-whole : Whole o.count o.imports.now
+    row-whole = whole_by (read_times import_record o.count o.imports.now) (sym from ∙ q)
 
 -- no row where there is no outline
 none-at : (u : List ℕ) (h : Head) (o : Option (ℕ × List ℕ)) → ◌≡◌ {A = Option (Head × (ℕ × List ℕ))} None (bind o (λ n. Some (h, (n.0, n.1)))) → None ≡ after_count h o
@@ -121,28 +136,3 @@ none-by (Some (h, u)) e = none-at u h (count.read u) e
 
 pub row-none : (s : List ℕ) → None ≡ outline s → None ≡ read_whole row s
 row-none s e = none-by (head.read s) e
-
--- what a glance shows of a payload that is read
-
-when-is : (b : Bool) (p q : ℕ × Row) → when b p ≡ Some q → p ≡ q
-when-is true p q e = some_inj e
-when-is false p q e = never _ e
-
-module _ (t : List ℕ) (value : ℕ × Row) (q : read_whole row t ≡ Some value) where
-  shown_by : (v : RowView) (o : Option (List ImportRecord × List ℕ)) → after_records (outlined v).0 o ≡ Some value → row_of (outlined v).0 (listed o) ≡ value
-  shown_by v None e = never _ e
-  shown_by v (Some (es, [])) e = when-is (allowed (row_of (outlined v).0 es).1) (row_of (outlined v).0 es) value (sym (records-judged (outlined v).0 (es, [])) ∙ e)
-  shown_by v (Some (es, b ∷ bs)) e = never _ (sym (records-judged (outlined v).0 (es, b ∷ bs)) ∙ e)
-
-  pub row-shown : (r : Option RowView) → option_map outlined r ≡ outline t → option_map shown r ≡ Some value
-  row-shown None e = never _ (row-none t e ∙ q)
-  row-shown (Some v) e = ap Some (shown_by v (read_times import_record v.count v.imports.now) (sym (from t v e) ∙ q))
-
-  whole_by : (v : RowView) (o : Option (List ImportRecord × List ℕ)) → after_records (outlined v).0 o ≡ Some value → is_some (bind o alone) ≡ true
-  whole_by v None e = never _ e
-  whole_by v (Some (es, [])) e = refl
-  whole_by v (Some (es, b ∷ bs)) e = never _ (sym (records-judged (outlined v).0 (es, b ∷ bs)) ∙ e)
-
-  pub row-whole : (r : Option RowView) → option_map outlined r ≡ outline t → Whole r
-  row-whole None e = tt
-  row-whole (Some v) e = whole_by v (read_times import_record v.count v.imports.now) (sym (from t v e) ∙ q)

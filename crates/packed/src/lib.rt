@@ -3,4 +3,5 @@
 
 pub mod fields;
 pub mod read;
+pub mod records;
 pub mod view;

@@ -1,8 +1,9 @@
 -- The two laws of a codec, and that each way to put codecs together keeps them.
-use Rattle.std.proofs.Common.{◌≡◌, ℕ, zero, suc, ◌+◌, ◌*◌, ◌/◌, ◌%◌, ◌^◌, ◌<◌, ◌≤◌, Bool, true, false, ◌&&◌, eqb, leb, List, [], ◌∷◌, ◌++◌, length, take, drop, Some, None, Option, sym, refl, ap, ◌∙◌, subst, pow-suc, arith}
+use Rattle.std.proofs.Common.{◌≡◌, ℕ, zero, suc, ◌+◌, ◌*◌, ◌/◌, ◌%◌, ◌^◌, ◌<◌, ◌≤◌, Bool, true, false, ◌&&◌, leb, List, [], ◌∷◌, ◌++◌, length, take, drop, Some, None, Option, sym, refl, ap, ◌∙◌, subst, pow-suc, arith}
 use Rattle.std.specs.List.{AllByRecursion}
 use Rattle.std.proofs.lemmas.List.{append-nil, append_assoc, length-append, take-append-drop, take_at, drop_at, length-take-le}
-use Rattle.std.proofs.lemmas.Bool.{le-leb, leb-true, eqb-true, and_parts, and_from}
+use Rattle.std.proofs.lemmas.Bool.{le-leb, leb-true, and_parts, and_from}
+use Rattle.packed_layout.specs.Codes.{found}
 use Rattle.packed_layout.specs.Codec.{Codec, when, bind, text, via, seen, such, bytes, value, number, ◌then◌, write_all, read_times, times, counted, within, find, one_of, alone, read_whole, Bytes}
 
 -- a codec that holds to the layout, for the values that fit it: what is written is read, and what is read was written
@@ -31,6 +32,10 @@ when-some false a x e = never _ e
 pub bind-some : {A B : Type 0} (o : Option A) (f : A → Option B) (b : B) → bind o f ≡ Some b → (a : A) × (o ≡ Some a) × (f a ≡ Some b)
 bind-some None f b e = never _ e
 bind-some (Some a) f b e = (a, refl, e)
+
+-- what comes of a value that is there
+pub bind_is : {A B : Type 0} {o : Option A} {a : A} (f : A → Option B) → o ≡ Some a → bind o f ≡ f a
+bind_is {A} f e = ap (λ (o : Option A). bind o f) e
 
 pub bytes_rest : (p q : List ℕ) → Bytes (p ++ q) → Bytes q
 bytes_rest [] q h = h
@@ -203,19 +208,11 @@ module _ {A : Type 0} {count : Codec ℕ} {items : ℕ → Codec (List A)} {F : 
 
 -- one of some values
 
-pub find-code : {A : Type 0} (code : A → ℕ) (all : List A) (n : ℕ) (a : A) → find code all n ≡ Some a → n ≡ code a
-find-code code [] n a e = never _ e
-find-code {A} code (x ∷ xs) n a e = go (find-code code xs n a) (eqb n (code x)) refl e
-  where
-    go : (find code xs n ≡ Some a → n ≡ code a) → (t : Bool) → eqb n (code x) ≡ t → elim t as (λ _. Option A) [ true ↦ Some x | false ↦ find code xs n ] ≡ Some a → n ≡ code a
-    go later true p e = eqb-true n (code x) p ∙ ap code (some_inj e)
-    go later false p e = later e
-
 abbrev pub Known : {A : Type 0} → (A → ℕ) → List A → A → Type 0
 Known code all a = (code a < 256) × (find code all (code a) ≡ Some a)
 
 pub one_of-lawful : {A : Type 0} (code : A → ℕ) (all : List A) → ((a : A) → Known code all a) → Lawful (one_of code all) (λ _. Unit {0})
-one_of-lawful code all h = via-lawful (find code all) code (number-lawful 1) (λ a _. h a) (λ n a _ e. (find-code code all n a e, tt))
+one_of-lawful code all h = via-lawful (find code all) code (number-lawful 1) (λ a _. h a) (λ n a _ e. (found code all n a e, tt))
 
 -- one value alone
 

@@ -3,7 +3,6 @@ use Rattle.std.proofs.Common.{◌≡◌, ℕ, ◌^◌, ◌<◌, ◌≤◌, Bool,
 use Rattle.std.specs.List.{AllByRecursion}
 use Rattle.std.proofs.lemmas.List.{nil_from_length}
 use Rattle.std.proofs.lemmas.Bool.{eqb-true, eqb-false, ne_eqb, le-leb, leb-true, and_parts}
-use Rattle.std.proofs.lemmas.Bool.Decides.{nat_tests}
 use Rattle.rows.specs.declared.Sort.{Sort}
 use Rattle.rows.specs.declared.Sort.TheVariants.{Normal, External}
 use Rattle.rows.specs.declared.ExportsKind.{ExportsKind}
@@ -14,6 +13,7 @@ use Rattle.rows.specs.declared.Flags.{Flags}
 use Rattle.rows.specs.Rows.{Row, is_normal_sort, no_flags}
 use Rattle.packed_layout.specs.Layout
 use Rattle.packed_layout.specs.Layout.{Head, row_of, head_of, flags_code, flags_of, target_code, target_of, sort_code, sorts, exports_code, exports_kinds, kind_code, import_kinds, bare, allowed}
+use Rattle.packed_layout.specs.Codes.{bits_back}
 use Rattle.packed_layout.specs.Exact.{Name, Resolved, Bare, Fits}
 use Rattle.packed_layout.proofs.Codecs.{Lawful, fit-lawful, seen-lawful, such_lawful, then-lawful, number-lawful, within-lawful, text-lawful, times-lawful, counted-lawful, Known, one_of-lawful}
 
@@ -51,11 +51,8 @@ flags-there false true false = (lit≤ tt, refl)
 flags-there false false true = (lit≤ tt, refl)
 flags-there false false false = (lit≤ tt, refl)
 
-flags-back : (n : ℕ) → n ≤ 7 → n ≡ flags_code (flags_of n)
-flags-back n h = grind (arith, nat_tests)
-
 flags-lawful : Lawful Layout.flags (λ _. Unit {0})
-flags-lawful = seen-lawful flags_of flags_code (such_lawful (λ n. leb n 7) (number-lawful 1)) there (λ n f. (flags-back n (leb-true n 7 f.1), tt))
+flags-lawful = seen-lawful flags_of flags_code (such_lawful (λ n. leb n 7) (number-lawful 1)) there (λ n f. (bits_back n (leb-true n 7 f.1), tt))
   where
     there : (f : Flags) → Unit {0} → ((flags_code f < 256) × (leb (flags_code f) 7 ≡ true)) × (flags_of (flags_code f) ≡ f)
     there f _ =

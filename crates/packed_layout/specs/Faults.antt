@@ -1,5 +1,6 @@
 -- Why a packed record or a row is refused, and the number of each fault.
-use Rattle.std.specs.Prelude.{ℕ}
+use Rattle.std.specs.Prelude.{ℕ, List, ◌++◌, codes}
+use Rattle.std.specs.Fmt.{decimal}
 use Rattle.packed_layout.specs.declared.faults.RecordFault.{RecordFault}
 use Rattle.packed_layout.specs.declared.faults.RecordFault.TheVariants.{EndsInside, UnknownKind, BrokenLayout}
 use Rattle.packed_layout.specs.declared.faults.RowFault.{RowFault}
@@ -22,3 +23,7 @@ abbrev pub row_offset : RowFault → ℕ
 row_offset (Record at) = at.offset
 row_offset (OutOfTurn offset) = offset
 row_offset (NameClash offset) = offset
+
+-- what a refused row says of itself: the number of its fault, and where its record begins
+abbrev pub fault_text : RowFault → List ℕ
+fault_text fault = codes "refused " ++ (decimal (row_number fault) ++ (codes " at " ++ decimal (row_offset fault)))

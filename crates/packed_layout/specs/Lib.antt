@@ -2,5 +2,6 @@ pub mod Codec
 pub mod Faults
 pub mod Records
 pub mod Layout
+pub mod Codes
 pub mod Exact
 pub mod Sample

@@ -110,9 +110,11 @@ module _ {A E : Type 0} (K : Kinds A) (entry : ℕ → A → E) (Fit : A → Typ
 
 -- Why a record is refused, in words of its bytes.
 
+-- the length of the payload that a header tells
 abbrev pub size_of : List ℕ → ℕ
 size_of s = value (take 4 s)
 
+-- the kind that a header tells
 abbrev pub kind_of : List ℕ → ℕ
 kind_of s = value (take 2 (drop 4 s))
 

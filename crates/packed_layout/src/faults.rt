@@ -1,10 +1,12 @@
 // Why a packed record or a row is refused.
-ghost use Rattle.std.specs.Prelude.{◌≡◌};
-ghost use Rattle.packed_layout.specs.Faults.{record_number, row_number, row_offset};
+ghost use Rattle.std.specs.Prelude.{◌≡◌, Some};
+ghost use Rattle.packed_layout.specs.Faults.{record_number, row_number, row_offset, fault_text};
 ghost use Rattle.packed_layout.specs.declared.faults.RowFault.TheVariants.{Record};
 
+use std::fmt;
+
 // What is wrong with a record.
-#[derive(Clone, Copy)]
+#[derive(Clone, Copy, Debug, PartialEq, Eq)]
 pub enum RecordFault {
     EndsInside,
     UnknownKind,
@@ -12,14 +14,14 @@ pub enum RecordFault {
 }
 
 // A record's fault, and where the record begins.
-#[derive(Clone, Copy)]
+#[derive(Clone, Copy, Debug, PartialEq, Eq)]
 pub struct FaultAt {
     pub fault: RecordFault,
     pub offset: usize,
 }
 
 // What is wrong with a row: its record, its number, or its names and sort.
-#[derive(Clone, Copy)]
+#[derive(Clone, Copy, Debug, PartialEq, Eq)]
 pub enum RowFault {
     Record(FaultAt),
     OutOfTurn { offset: usize },
@@ -35,6 +37,7 @@ impl From<FaultAt> for RowFault {
 }
 
 impl RecordFault {
+    // Refusals are numbered: scripts and logs tell them by these numbers, as docs/CALLS.md lists them.
     fn number(self) -> u8
         ensures { result ≡ record_number self }
     {
@@ -47,6 +50,7 @@ impl RecordFault {
 }
 
 impl RowFault {
+    // The number by which the refusal is told.
     pub fn number(self) -> u8
         ensures { result ≡ row_number self }
     {
@@ -63,8 +67,17 @@ impl RowFault {
     {
         match self {
             RowFault::Record(at) => at.offset,
-            RowFault::OutOfTurn { offset } => offset,
-            RowFault::NameClash { offset } => offset,
+            RowFault::OutOfTurn { offset } | RowFault::NameClash { offset } => offset,
         }
     }
 }
+
+impl fmt::Display for RowFault {
+    ghost output = { λ fault. Some (fault_text fault) };
+
+    fn fmt<W: fmt::Write>(&self, f: &mut fmt::Formatter<W>) -> fmt::Result {
+        write!(f, "refused {} at {}", self.number(), self.offset())
+    }
+}
+
+impl std::error::Error for RowFault {}

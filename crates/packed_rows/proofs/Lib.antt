@@ -1,4 +1,3 @@
-pub mod Counting
 pub mod Opening
 pub mod Records
 pub mod Coming

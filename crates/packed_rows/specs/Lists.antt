@@ -1,5 +1,5 @@
 -- A packed list that is read where it lies.
-use Rattle.std.specs.Prelude.{ℕ, List, [], map, length, Ok, Err, Result}
+use Rattle.std.specs.Prelude.{◌≡◌, ℕ, List, [], map, length, Ok, Err, Result}
 use Rattle.packed_layout.specs.declared.faults.RowFault.{RowFault}
 use Rattle.packed_layout.specs.declared.faults.RowFault.TheVariants.{Record}
 use Rattle.packed_layout.specs.Records.{Read, entries, broken}
@@ -14,6 +14,10 @@ row_count (broken at) = Err (Record at)
 abbrev pub entries_of : Read Entry → List Entry
 entries_of (entries es) = es
 entries_of (broken at) = []
+
+-- no record of a list is refused
+abbrev pub WellFormed : List ℕ → Type 0
+WellFormed s = read_all s ≡ entries (entries_of (read_all s))
 
 -- where the records of a list begin
 abbrev pub offsets : List ℕ → List ℕ

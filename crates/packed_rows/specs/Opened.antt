@@ -14,6 +14,7 @@ use Rattle.packed_rows.specs.Lists.{entries_of, offsets}
 abbrev pub rows_in : PackedRows → List Entry
 rows_in p = entries_of (read_all p.bytes.now)
 
+-- the numbered row of an entry
 abbrev pub numbered : Entry → ℕ × TheRow
 numbered e = (e.number, e.row)
 

@@ -1,39 +1,83 @@
 // A packed list, read record by record.
-ghost use Rattle.std.specs.Prelude.{◌≡◌, drop};
-ghost use Rattle.std.specs.Option.{option_map};
-ghost use Rattle.std.specs.List.{slice_get};
-ghost use Rattle.packed.specs.Views.{Whole};
-ghost use Rattle.packed_rows.specs.Entries.{readable, coming, entry_in};
+ghost use Rattle.std.specs.Prelude.{◌≡◌, ◌≤◌, length};
+ghost use Rattle.std.specs.Iterator.{YieldsFirstBy, item_count};
+ghost use Rattle.packed_layout.specs.Layout.{read_all};
+ghost use Rattle.packed_rows.specs.Lists.{WellFormed, entries_of};
+ghost use Rattle.packed_rows.specs.Entries.{outcomes, unread, gathered, outcome_in, readable, coming, entry_in};
 
 use packed::read::read_record;
 use packed::view::RowView;
+use packed_layout::faults::FaultAt;
 
-// Some bytes, and where the next record begins.
+// The records of a list one by one: a row and where its record begins, or the fault of a record
+// that is refused, after which nothing comes.
 #[derive(Drop)]
-pub struct Entries<'a> {
+pub struct Records<'a> {
     bytes: &'a [u8],
     offset: usize,
 }
 
-impl<'a> Entries<'a> {
-    pub fn over(bytes: &'a [u8]) -> Entries<'a>
-        ensures { coming result ≡ readable bytes.now 0 }
+impl<'a> Records<'a> {
+    // The records of all the bytes, which make the list that the layout reads.
+    pub fn over(bytes: &'a [u8]) -> Records<'a>
+        ensures all { unread result ≡ outcomes bytes.now 0 }
+        ensures list { gathered (unread result) ≡ read_all bytes.now }
+        ensures few { length (unread result) ≤ length bytes.now }
     {
-        Entries { bytes, offset: 0 }
+        Records { bytes, offset: 0 }
     }
+}
 
-    // The next row, and where its record begins. Nothing comes after a record that is refused.
-    pub fn read_next(&mut self) -> Option<(usize, RowView<'a>)>
-        ensures value { option_map entry_in result ≡ slice_get (coming self.old) 0 }
-        ensures after { coming self.new ≡ drop 1 (coming self.old) }
-        ensures whole { Whole (option_map (λ p. p.1) result) }
-    {
+impl<'a> Iterator for Records<'a> {
+    type Item = Result<(usize, RowView<'a>), FaultAt>;
+
+    ghost next_gives = { YieldsFirstBy outcome_in unread };
+
+    ghost remaining = { item_count unread };
+
+    fn next(&mut self) -> Option<Result<(usize, RowView<'a>), FaultAt>> {
         let offset = self.offset;
-        let Ok(found) = read_record(self.bytes, offset) else {
-            return None;
-        };
-        let (row, next) = found?;
-        self.offset = next;
-        Some((offset, row))
+        match read_record(self.bytes, offset).transpose()? {
+            Ok((row, next)) => {
+                self.offset = next;
+                Some(Ok((offset, row)))
+            }
+            Err(fault) => {
+                self.offset = self.bytes.len();
+                Some(Err(fault))
+            }
+        }
+    }
+}
+
+// The rows of a list one by one, each with the offset of its record, up to the end or the first
+// record that is refused.
+#[derive(Drop)]
+pub struct Entries<'a> {
+    records: Records<'a>,
+}
+
+impl<'a> Entries<'a> {
+    // The rows of all the bytes: those of the list, where no record of it is refused.
+    pub fn over(bytes: &'a [u8]) -> Entries<'a>
+        ensures all { coming result ≡ readable bytes.now 0 }
+        ensures list { WellFormed bytes.now → coming result ≡ entries_of (read_all bytes.now) }
+        ensures few { length (coming result) ≤ length bytes.now }
+    {
+        Entries {
+            records: Records::over(bytes),
+        }
+    }
+}
+
+impl<'a> Iterator for Entries<'a> {
+    type Item = (usize, RowView<'a>);
+
+    ghost next_gives = { YieldsFirstBy entry_in coming };
+
+    ghost remaining = { item_count coming };
+
+    fn next(&mut self) -> Option<(usize, RowView<'a>)> {
+        self.records.next()?.ok()
     }
 }

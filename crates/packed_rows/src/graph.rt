@@ -1,24 +1,9 @@
 // A packed list as a graph: its k-th record tells row k.
-ghost use Rattle.std.specs.Prelude.{◌≡◌};
-ghost use Rattle.packed_rows.specs.Graphs.{project_in, import_at};
+ghost use Rattle.packed_rows.specs.Graphs.{project_in};
 
 use crate::PackedRows;
-use packed::fields::take_import;
 use rows::graph::Graph;
 use rows::{Facts, ImportRecord};
-
-const IMPORT_LEN: usize = 3;
-
-// The import record at a place.
-fn import_at(imports: &[u8], place: usize) -> Option<ImportRecord>
-    ensures { result ≡ import_at imports.now place }
-{
-    if place >= imports.len() / IMPORT_LEN {
-        return None;
-    }
-    let (record, _) = take_import(&imports[IMPORT_LEN * place..])?;
-    Some(record)
-}
 
 impl Graph for PackedRows<'_> {
     ghost rows = { project_in };
@@ -28,35 +13,22 @@ impl Graph for PackedRows<'_> {
     }
 
     fn facts(&self, row: u16) -> Option<Facts> {
-        let view = self.row(usize::from(row))?;
-        let head = view.head;
-        Some(Facts {
-            sort: head.sort,
-            flags: head.flags,
-            exports: head.exports,
-            mark: head.mark,
-        })
+        self.row(row.into()).map(|view| view.head.facts)
     }
 
     fn id(&self, row: u16) -> Option<&[u8]> {
-        let view = self.row(usize::from(row))?;
-        Some(view.head.id)
+        self.row(row.into()).map(|view| view.head.id)
     }
 
     fn stable_id(&self, row: u16) -> Option<&[u8]> {
-        let view = self.row(usize::from(row))?;
-        Some(view.head.stable_id)
+        self.row(row.into()).map(|view| view.head.stable_id)
     }
 
     fn record_count(&self, row: u16) -> usize {
-        match self.row(usize::from(row)) {
-            Some(view) => usize::from(view.count),
-            None => 0,
-        }
+        self.row(row.into()).map_or(0, |view| view.imports.len())
     }
 
     fn record(&self, row: u16, place: usize) -> Option<ImportRecord> {
-        let view = self.row(usize::from(row))?;
-        import_at(view.imports, place)
+        self.row(row.into())?.imports.get(place)
     }
 }

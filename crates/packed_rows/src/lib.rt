@@ -2,7 +2,7 @@
 #![tactic(auto)]
 
 ghost use Rattle.std.specs.Prelude.{◌≡◌};
-ghost use Rattle.packed_rows.specs.Lists.{offsets};
+ghost use Rattle.packed_rows.specs.Lists.{WellFormed, offsets};
 ghost use Rattle.packed_rows.specs.declared.OpenFault.TheVariants.{Row};
 ghost use Rattle.packed_layout.specs.declared.faults.RowFault.TheVariants.{Record};
 
@@ -12,16 +12,17 @@ pub mod entries;
 pub mod graph;
 pub mod list;
 
-// A list, and the offsets of its records.
+// A list whose records are all well formed, and their offsets.
 #[derive(Drop)]
 pub struct PackedRows<'a> {
     bytes: &'a [u8],
     places: Vec<usize>,
+    ghost formed: { WellFormed bytes.now },
     ghost placed: { offsets bytes.now ≡ places.items },
 }
 
 // Why a list is not opened: one of its records, or too few places for its rows.
-#[derive(Clone, Copy)]
+#[derive(Clone, Copy, Debug, PartialEq, Eq)]
 pub enum OpenFault {
     Row(RowFault),
     Short { wanted: usize },

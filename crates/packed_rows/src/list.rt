@@ -4,12 +4,14 @@ ghost use Rattle.std.specs.Option.{option_map};
 ghost use Rattle.std.specs.List.{slice_get};
 ghost use Rattle.packed_layout.specs.Layout.{read_all};
 ghost use Rattle.packed_rows.specs.Lists.{row_count};
-ghost use Rattle.packed.specs.Views.{shown, Whole};
+ghost use Rattle.packed_rows.specs.Entries.{coming};
+ghost use Rattle.packed.specs.Views.{shown};
 ghost use Rattle.packed_rows.specs.Opened.{rows_in, numbered, opened, opened_as, HandedBack, Noted};
 
+use crate::entries::{Entries, Records};
 use crate::{OpenFault, PackedRows, Unopened};
-use packed::read::{glance_at, read_record};
-use packed::view::RowView;
+use packed::read::glance_at;
+use packed::view::{Imports, RowView};
 use packed_layout::faults::RowFault;
 
 // How many rows a list has.
@@ -17,10 +19,9 @@ pub fn count_rows(bytes: &[u8]) -> Result<usize, RowFault>
     ensures { result ≡ row_count (read_all bytes.now) }
 {
     let mut count = 0;
-    let mut offset = 0;
-    while let Some((_, next)) = read_record(bytes, offset)? {
+    for record in Records::over(bytes) {
+        record?;
         count += 1;
-        offset = next;
     }
     Ok(count)
 }
@@ -31,14 +32,13 @@ fn note_places(bytes: &[u8], places: &mut Vec<usize>) -> Result<(), OpenFault>
     ensures sized { vec_capacity places.new ≡ vec_capacity places.old }
 {
     places.clear();
-    let mut offset = 0;
-    while let Some((_, next)) = read_record(bytes, offset)? {
+    for record in Records::over(bytes) {
+        let (offset, _) = record?;
         if places.len() >= places.capacity() {
             let wanted = count_rows(bytes)?;
             return Err(OpenFault::Short { wanted });
         }
         places.push_reserved(offset);
-        offset = next;
     }
     Ok(())
 }
@@ -64,12 +64,32 @@ impl<'a> PackedRows<'a> {
         self.places.len()
     }
 
+    // Where the k-th record begins.
+    fn place(&self, k: usize) -> Option<usize>
+        ensures { result ≡ slice_get self.now.places.items k }
+    {
+        self.places.get(k).copied()
+    }
+
     // The row in the k-th record. Its import records are not looked at.
     pub fn row(&self, k: usize) -> Option<RowView<'a>>
-        ensures shown { option_map shown result ≡ option_map numbered (slice_get (rows_in self.now) k) }
-        ensures whole { Whole result }
+        ensures { option_map shown result ≡ option_map numbered (slice_get (rows_in self.now) k) }
     {
-        let place = *self.places.get(k)?;
-        glance_at(self.bytes, place)
+        let outline = glance_at(self.bytes, self.place(k)?)?;
+        let imports = Imports {
+            count: outline.count,
+            bytes: outline.imports,
+        };
+        Some(RowView {
+            head: outline.head,
+            imports,
+        })
+    }
+
+    // The rows in the order of their records, each with the offset of its record.
+    pub fn entries(&self) -> Entries<'a>
+        ensures { coming result ≡ rows_in self.now }
+    {
+        Entries::over(self.bytes)
     }
 }

@@ -1,14 +1,14 @@
-// What is read of each record, by the number of its refusal; 0 stands for none.
+// What is read of each record, or the number of its refusal.
 use packed::read::read_record;
 use packed_layout::faults::RowFault;
-use packed_rows::PackedRows;
 use packed_rows::list::count_rows;
+use packed_rows::{OpenFault, PackedRows};
 use packer::{PackFault, Row};
-use rows::{ExportsKind, Flags, ImportKind, ImportRecord, Sort};
+use rows::{ExportsKind, Facts, Flags, ImportKind, ImportRecord, Sort};
 use std::alloc::{AllocError, Global};
 use std::test::Fail;
 
-// The parts of a record, in or out of the limits, and the number that it gets.
+// The parts of a record, in or out of the limits, and the number by which it is refused, if it is.
 #[derive(Clone, Copy)]
 struct Shape {
     kind: u16,
@@ -20,7 +20,7 @@ struct Shape {
     count: u16,
     import_kind: u8,
     surplus: u16,
-    number: u8,
+    refused: Option<u8>,
 }
 
 const GOOD: Shape = Shape {
@@ -33,7 +33,7 @@ const GOOD: Shape = Shape {
     count: 2,
     import_kind: 1,
     surplus: 0,
-    number: 0,
+    refused: None,
 };
 
 const BARE: Shape = Shape {
@@ -48,55 +48,55 @@ const SHAPES: [Shape; 36] = [
     BARE,
     Shape {
         kind: 0,
-        number: 2,
+        refused: Some(2),
         ..GOOD
     },
     Shape {
         kind: 2,
-        number: 2,
+        refused: Some(2),
         ..GOOD
     },
     Shape {
         kind: 257,
-        number: 2,
+        refused: Some(2),
         ..GOOD
     },
     Shape {
         kind: 2,
         sort: 9,
-        number: 2,
+        refused: Some(2),
         ..GOOD
     },
     Shape {
         sort: 2,
-        number: 3,
+        refused: Some(3),
         ..GOOD
     },
     Shape {
         sort: 255,
-        number: 3,
+        refused: Some(3),
         ..GOOD
     },
     Shape { flags: 7, ..GOOD },
     Shape {
         flags: 8,
-        number: 3,
+        refused: Some(3),
         ..GOOD
     },
     Shape {
         flags: 128,
-        number: 3,
+        refused: Some(3),
         ..GOOD
     },
     Shape { exports: 2, ..GOOD },
     Shape {
         exports: 3,
-        number: 3,
+        refused: Some(3),
         ..GOOD
     },
     Shape {
         id_len: 0,
-        number: 3,
+        refused: Some(3),
         ..GOOD
     },
     Shape { id_len: 1, ..GOOD },
@@ -106,12 +106,12 @@ const SHAPES: [Shape; 36] = [
     },
     Shape {
         id_len: 1025,
-        number: 3,
+        refused: Some(3),
         ..GOOD
     },
     Shape {
         stable_len: 0,
-        number: 3,
+        refused: Some(3),
         ..GOOD
     },
     Shape {
@@ -124,7 +124,7 @@ const SHAPES: [Shape; 36] = [
     },
     Shape {
         stable_len: 1025,
-        number: 3,
+        refused: Some(3),
         ..GOOD
     },
     Shape { count: 0, ..GOOD },
@@ -134,7 +134,7 @@ const SHAPES: [Shape; 36] = [
     },
     Shape {
         count: 1025,
-        number: 3,
+        refused: Some(3),
         ..GOOD
     },
     Shape {
@@ -145,7 +145,7 @@ const SHAPES: [Shape; 36] = [
     },
     Shape {
         import_kind: 0,
-        number: 3,
+        refused: Some(3),
         ..GOOD
     },
     Shape {
@@ -154,32 +154,32 @@ const SHAPES: [Shape; 36] = [
     },
     Shape {
         import_kind: 5,
-        number: 3,
+        refused: Some(3),
         ..GOOD
     },
     Shape {
         surplus: 1,
-        number: 3,
+        refused: Some(3),
         ..GOOD
     },
     Shape {
         surplus: 3,
-        number: 3,
+        refused: Some(3),
         ..GOOD
     },
     Shape {
         sort: 1,
-        number: 3,
+        refused: Some(3),
         ..GOOD
     },
     Shape {
         flags: 1,
-        number: 3,
+        refused: Some(3),
         ..BARE
     },
     Shape {
         exports: 1,
-        number: 3,
+        refused: Some(3),
         ..BARE
     },
     Shape {
@@ -189,22 +189,19 @@ const SHAPES: [Shape; 36] = [
     },
     Shape {
         surplus: 32747,
-        number: 3,
+        refused: Some(3),
         ..BARE
     },
     Shape {
         surplus: 32748,
-        number: 3,
+        refused: Some(3),
         ..BARE
     },
 ];
 
 fn push_name(v: &mut Vec<u8>, len: u16) -> Result<(), AllocError> {
     v.extend_from_slice(&len.to_le_bytes())?;
-    for _ in 0..len {
-        v.push(97)?;
-    }
-    Ok(())
+    v.resize(v.len() + usize::from(len), b'a')
 }
 
 // The record of a shape. Its mark is free, and so are its targets.
@@ -222,24 +219,22 @@ fn build(heap: Global, s: Shape) -> Result<Vec<u8>, AllocError> {
     for _ in 0..s.count {
         v.extend_from_slice(&[s.import_kind, 255, 255])?;
     }
-    for _ in 0..s.surplus {
-        v.push(0)?;
-    }
+    v.resize(v.len() + usize::from(s.surplus), 0)?;
     Ok(v)
 }
 
-fn number_at(bytes: &[u8], offset: usize) -> u8 {
-    match read_record(bytes, offset) {
-        Ok(_) => 0,
-        Err(at) => RowFault::Record(at).number(),
-    }
+// The number by which the record at an offset is refused, if it is.
+fn refused_at(bytes: &[u8], offset: usize) -> Option<u8> {
+    read_record(bytes, offset)
+        .err()
+        .map(|at| RowFault::Record(at).number())
 }
 
 #[test]
 fn every_field_at_its_limits(rt: HostRuntime) -> Result<(), Fail> {
     for s in SHAPES.iter() {
         let v = build(rt.alloc(), *s)?;
-        assert_eq!(rt; number_at(&v, 0), s.number);
+        assert_eq!(rt; refused_at(&v, 0), s.refused);
     }
     Ok(())
 }
@@ -249,13 +244,13 @@ fn every_cut_ends_inside(rt: HostRuntime) -> Result<(), Fail> {
     let v = build(rt.alloc(), GOOD)?;
     let bytes = v.as_slice();
     assert!(rt; bytes.len() == 36);
-    assert_eq!(rt; number_at(&bytes[0..0], 0), 0);
+    assert_eq!(rt; refused_at(&bytes[0..0], 0), None);
     for n in 1..bytes.len() {
-        assert_eq!(rt; number_at(&bytes[0..n], 0), 1);
+        assert_eq!(rt; refused_at(&bytes[0..n], 0), Some(1));
     }
-    assert_eq!(rt; number_at(bytes, 0), 0);
-    assert_eq!(rt; number_at(bytes, 36), 0);
-    assert_eq!(rt; number_at(bytes, 35), 1);
+    assert_eq!(rt; refused_at(bytes, 0), None);
+    assert_eq!(rt; refused_at(bytes, 36), None);
+    assert_eq!(rt; refused_at(bytes, 35), Some(1));
     Ok(())
 }
 
@@ -279,7 +274,7 @@ fn every_length_one_off(rt: HostRuntime) -> Result<(), Fail> {
             return Err(Fail::new("no such place"));
         };
         *b = *length;
-        assert_eq!(rt; number_at(&v, 0), *number);
+        assert_eq!(rt; refused_at(&v, 0), Some(*number));
     }
     Ok(())
 }
@@ -305,14 +300,16 @@ fn faults_are_told_where_they_stand(rt: HostRuntime) -> Result<(), Fail> {
 fn sample<'a>(id: &'a [u8], records: &'a [ImportRecord]) -> Row<'a> {
     Row {
         number: 7,
-        sort: Sort::Normal,
-        flags: Flags {
-            self_accepting: true,
-            lazy_export: false,
-            entry: true,
+        facts: Facts {
+            sort: Sort::Normal,
+            flags: Flags {
+                self_accepting: true,
+                lazy_export: false,
+                entry: true,
+            },
+            exports: ExportsKind::Esm,
+            mark: 258,
         },
-        exports: ExportsKind::Esm,
-        mark: 258,
         id,
         stable_id: id,
         records,
@@ -340,26 +337,23 @@ fn a_short_page_is_refused_with_the_length(rt: HostRuntime) -> Result<(), Fail> 
     let mut page = vec![in rt.alloc(); 9u8; 40]?;
     let row = sample(b"ab", RECORDS);
     assert!(rt; page.len() == 40);
-    match row.pack(&mut page[0..34]) {
-        Err(PackFault::Short { wanted }) => assert_eq!(rt; wanted, 35),
-        _ => return Err(Fail::new("a page too short was taken")),
-    }
+    assert_eq!(rt;
+        row.pack(&mut page[0..34]),
+        Err(PackFault::Short { wanted: 35 })
+    );
     assert_eq!(rt; page.get(0).copied(), Some(9));
-    match row.pack(&mut page) {
-        Ok(len) => assert_eq!(rt; len, 35),
-        Err(_) => return Err(Fail::new("a page long enough was refused")),
-    }
+    assert_eq!(rt; row.pack(&mut page), Ok(35));
     assert_eq!(rt; page.get(34).copied(), Some(255));
     assert_eq!(rt; page.get(35).copied(), Some(9));
-    assert_eq!(rt; number_at(&page, 0), 0);
+    assert_eq!(rt; refused_at(&page, 0), None);
     Ok(())
 }
 
 #[test]
 fn what_does_not_fit_is_not_packed(rt: HostRuntime) -> Result<(), Fail> {
     let mut page = vec![in rt.alloc(); 0u8; 64]?;
-    assert!(rt; matches!(sample(b"", RECORDS).pack(&mut page), Err(PackFault::Unfit)));
-    assert!(rt; matches!(sample(b"a", UNFIT).pack(&mut page), Err(PackFault::Unfit)));
+    assert_eq!(rt; sample(b"", RECORDS).pack(&mut page), Err(PackFault::Unfit));
+    assert_eq!(rt; sample(b"a", UNFIT).pack(&mut page), Err(PackFault::Unfit));
     Ok(())
 }
 
@@ -372,7 +366,7 @@ fn places_are_counted(rt: HostRuntime) -> Result<(), Fail> {
     v.extend_from_slice(&second)?;
     match PackedRows::open(&v, Vec::new(heap)) {
         Ok(_) => return Err(Fail::new("rows were opened without places")),
-        Err(u) => assert!(rt; matches!(u.cause, packed_rows::OpenFault::Short { wanted: 2 })),
+        Err(u) => assert_eq!(rt; u.cause, OpenFault::Short { wanted: 2 }),
     }
     match PackedRows::open(&v, Vec::with_capacity(heap, 2)?) {
         Ok(rows) => {

@@ -1,5 +1,3 @@
 mod Putting
-mod Digits
 mod Fitting
-mod Lengths
 mod Packing

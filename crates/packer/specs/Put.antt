@@ -1,12 +1,25 @@
--- Writing into a buffer.
+-- Writing into a buffer with a pen.
 use Rattle.std.specs.Prelude.{◌≡◌, ℕ, ◌+◌, ◌≤◌, List, ◌++◌, length, take, drop}
+use Rattle.packer.specs.declared.pen.Pen.{Pen}
 
--- the buffer with some bytes over its own, from a place on
-abbrev pub over : ℕ → List ℕ → List ℕ → List ℕ
-over place bytes buffer = take place buffer ++ (bytes ++ drop (place + length bytes) buffer)
+-- a pen stands at the front of a buffer
+pub record AtFront (buffer : List ℕ) (pen : Pen) : Type 0 where
+  pub at : pen.at ≡ 0
+  pub holds : pen.buffer.now ≡ buffer
 
--- some bytes were put into a buffer at a place: where they end, and what the buffer holds after
-pub record Put (place : ℕ) (bytes before : List ℕ) (end : ℕ) (after : List ℕ) : Type 0 where
-  pub fits : place + length bytes ≤ length before
-  pub ends : end ≡ place + length bytes
-  pub wrote : after ≡ over place bytes before
+-- behind the pen there is room for so many bytes
+abbrev pub Room : Pen → ℕ → Type 0
+Room pen n = pen.at + n ≤ length pen.buffer.now
+
+-- what a pen has written: the bytes before it
+abbrev pub written : Pen → List ℕ
+written pen = take pen.at pen.buffer.now
+
+-- a pen put some bytes behind what it had written, and left those behind them and the length of its buffer as they were
+pub record Put (bytes : List ℕ) (before after : Pen) : Type 0 where
+  pub room : Room before (length bytes)
+  pub at : after.at ≡ before.at + length bytes
+  pub written : written after ≡ written before ++ bytes
+  pub kept : drop after.at after.buffer.now ≡ drop after.at before.buffer.now
+  pub long : length after.buffer.now ≡ length before.buffer.now
+  pub same : after.buffer.ghost_name ≡ before.buffer.ghost_name

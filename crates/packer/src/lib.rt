@@ -1,148 +1,129 @@
 // Writing one numbered row as a packed record.
 #![tactic(auto)]
 
-ghost use Rattle.std.specs.Prelude.{◌≡◌, ◌+◌, ◌≤◌, true, length};
-ghost use Rattle.packed_layout.specs.Layout.{allowed, head, head_of, row};
-ghost use Rattle.packer.specs.Packs.{meant, name?, resolved?, all_resolved?, fits?, packs, ReadBack, Typed, FitIsTested};
-ghost use Rattle.packer.specs.Put.{Put};
+ghost use Rattle.std.specs.Prelude.{◌≡◌, ◌≤◌, false, length, MatchResult, Some};
+ghost use Rattle.packed_layout.specs.Layout.{head, head_of};
+ghost use Rattle.packer.specs.Packs.{meant, name?, resolved?, all_resolved?, fits?, packs, fault_text, ReadBack, Measured, Typed, FitIsTested};
+ghost use Rattle.packer.specs.Put.{Put, Room};
 
-use crate::codes::{UNRESOLVED, exports_code, flags_code, sort_code};
-use crate::fields::{put_header, put_imports, put_name};
-use crate::put::{put_u8, put_u16, put_u64};
-use rows::{ExportsKind, Flags, ImportRecord, Sort};
+use crate::pen::Pen;
+use packed_layout::allowed::is_allowed;
+use packed_layout::sizes::{HEADER_LEN, IMPORT_LEN, LONGEST_NAME, MOST_IMPORTS, UNRESOLVED};
+use rows::{Facts, ImportRecord};
+use std::fmt;
 
-mod codes;
-mod fields;
-mod put;
+mod pen;
 
 // A row to be packed.
 #[derive(Clone, Copy)]
 pub struct Row<'a> {
     pub number: u16,
-    pub sort: Sort,
-    pub flags: Flags,
-    pub exports: ExportsKind,
-    pub mark: u64,
+    pub facts: Facts,
     pub id: &'a [u8],
     pub stable_id: &'a [u8],
     pub records: &'a [ImportRecord],
 }
 
 // Why a row is not packed: it does not fit the layout, or the buffer is shorter than its record.
-#[derive(Clone, Copy)]
+#[derive(Clone, Copy, PartialEq, Eq, Debug)]
 pub enum PackFault {
     Unfit,
     Short { wanted: usize },
 }
 
-const LONGEST_NAME: usize = 1024;
+impl fmt::Display for PackFault {
+    ghost output = { λ fault. Some (fault_text fault) };
 
-const MOST_IMPORTS: usize = 1024;
+    fn fmt<W: fmt::Write>(&self, f: &mut fmt::Formatter<W>) -> fmt::Result {
+        match *self {
+            PackFault::Unfit => write!(f, "the row does not fit the layout"),
+            PackFault::Short { wanted } => write!(f, "the page has no room for {wanted} bytes"),
+        }
+    }
+}
 
-const HEADER_LEN: usize = 6;
+impl std::error::Error for PackFault {}
 
-// The fields of a row but for its names and its import records, and the three numbers before those.
+// A payload but for the names and the import records: the other fields, and the three lengths before those.
 const FIXED_LEN: usize = 19;
-
-const IMPORT_LEN: usize = 3;
 
 // An id or a stable id has 1 to 1,024 bytes.
 fn is_name(bytes: &[u8]) -> bool
     ensures { result ≡ name? bytes.now }
 {
-    !bytes.is_empty() && bytes.len() <= LONGEST_NAME
+    (1..=usize::from(LONGEST_NAME)).contains(&bytes.len())
 }
 
-// No target has the number that stands for an unresolved import.
+// A target is below the number that stands for an unresolved import.
 fn is_resolved(target: Option<u16>) -> bool
     ensures { result ≡ resolved? target }
 {
-    match target {
-        Some(row) => row < UNRESOLVED,
-        None => true,
-    }
+    target.is_none_or(|row| row < UNRESOLVED)
 }
 
-// The same of all import records.
+// So is each target.
 fn are_resolved(records: &[ImportRecord]) -> bool
     ensures { result ≡ all_resolved? records.now }
 {
-    for record in records {
-        if !is_resolved(record.target) {
-            return false;
-        }
-    }
-    true
+    records.iter().all(|record| is_resolved(record.target))
 }
 
 impl Row<'_> {
-    // An external row has nothing but its names and its mark.
-    fn is_allowed(&self) -> bool
-        ensures { result ≡ allowed (meant self.now).1 }
-    {
-        match self.sort {
-            Sort::Normal => true,
-            Sort::External => {
-                flags_code(self.flags) == 0
-                    && exports_code(self.exports) == 0
-                    && self.records.is_empty()
-            }
-        }
-    }
-
     // Whether the row is within the limits of the layout.
     fn is_fit(&self) -> bool
         ensures { result ≡ fits? (meant self.now) }
     {
         is_name(self.id)
             && is_name(self.stable_id)
-            && self.records.len() <= MOST_IMPORTS
+            && self.records.len() <= usize::from(MOST_IMPORTS)
             && are_resolved(self.records)
-            && self.is_allowed()
+            && is_allowed(self.facts, self.records.len())
     }
 
-    // The length of the record but for its header.
-    fn payload_len(&self) -> usize
-        requires { fits? (meant self.now) ≡ true }
-        ensures len { result ≡ length (row.write (meant self.now)) }
-        ensures short { result ≤ 32768 }
+    // The length of the payload, if the row is within the limits.
+    fn payload_len(&self) -> Result<usize, PackFault>
+        ensures { MatchResult result (Measured (meant self.now)) (λ fault. (fault ≡ PackFault.Unfit) × (fits? (meant self.now) ≡ false)) }
     {
-        FIXED_LEN + self.id.len() + self.stable_id.len() + IMPORT_LEN * self.records.len()
+        if self.is_fit() {
+            Ok(FIXED_LEN + self.id.len() + self.stable_id.len() + IMPORT_LEN * self.records.len())
+        } else {
+            Err(PackFault::Unfit)
+        }
     }
 
     // The fields before the import records.
-    fn put_head(&self, buffer: &mut [u8], place: usize) -> usize
+    fn put_head(&self, pen: &mut Pen<'_>)
         requires id { length self.now.id.now ≤ 1024 }
         requires stable { length self.now.stable_id.now ≤ 1024 }
-        requires room { place + 17 + length self.now.id.now + length self.now.stable_id.now ≤ length buffer.old }
-        ensures written { Put place (head.write (head_of (meant self.now))) buffer.old result buffer.new }
+        requires room { Room pen.old (length (head.write (head_of (meant self.now)))) }
+        ensures written { Put (head.write (head_of (meant self.now))) pen.old pen.new }
         ensures typed { Typed (meant self.now) }
     {
-        let at = put_u16(buffer, place, self.number);
-        let at = put_u8(buffer, at, sort_code(self.sort));
-        let at = put_u8(buffer, at, flags_code(self.flags));
-        let at = put_u8(buffer, at, exports_code(self.exports));
-        let at = put_u64(buffer, at, self.mark);
-        let at = put_name(buffer, at, self.id);
-        put_name(buffer, at, self.stable_id)
+        pen.put_number(self.number);
+        pen.put_coded(self.facts.sort);
+        pen.put_coded(self.facts.flags);
+        pen.put_coded(self.facts.exports);
+        pen.put_number(self.facts.mark);
+        pen.put_name(self.id);
+        pen.put_name(self.stable_id);
     }
 
     // Writes the row's record to the front of the buffer, and answers its length.
+    #[tactic(auto, using(crate::proofs::Fitting::fit_is_tested))]
     pub fn pack(&self, buffer: &mut [u8]) -> Result<usize, PackFault>
         ensures written { (result, buffer.new) ≡ packs (meant self.now) buffer.old }
         ensures told { ReadBack (meant self.now) buffer.new result }
         ensures exact { FitIsTested }
     {
-        if !self.is_fit() {
-            return Err(PackFault::Unfit);
-        }
-        let size = self.payload_len();
+        let size = self.payload_len()?;
         let wanted = HEADER_LEN + size;
         if buffer.len() < wanted {
             return Err(PackFault::Short { wanted });
         }
-        let at = put_header(buffer, size);
-        let at = self.put_head(buffer, at);
-        Ok(put_imports(buffer, at, self.records))
+        let mut pen = Pen::new(buffer);
+        pen.put_header(size);
+        self.put_head(&mut pen);
+        pen.put_imports(self.records);
+        Ok(pen.at)
     }
 }

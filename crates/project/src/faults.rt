@@ -7,7 +7,7 @@ use packed_layout::faults::RowFault;
 
 // A fault of one of its rows; or of the list: not the rows that were asked for, a target that is
 // no row, more than there is room for.
-#[derive(Clone, Copy)]
+#[derive(Clone, Copy, Debug, PartialEq, Eq)]
 pub enum RescanFault {
     Row(RowFault),
     WrongRows,
@@ -24,6 +24,7 @@ impl From<RowFault> for RescanFault {
 }
 
 impl RescanFault {
+    // The number by which the refusal is told.
     pub fn number(self) -> u8
         ensures { result ≡ rescan_number self }
     {

@@ -1,22 +1,14 @@
 // What a script has built up, and its calls.
-use crate::show::row_text;
-use packed_layout::faults::RowFault;
+use crate::line::Line;
+use crate::show::Shown;
+use packed_layout::sizes::{HEADER_LEN, LONGEST_PAYLOAD};
 use packed_rows::PackedRows;
 use packed_rows::list::count_rows;
-use packer::{PackFault, Row};
-use script::call::{Call, RowLine};
+use packer::Row;
+use script::call::{Call, Room, RowLine};
 use std::alloc::{AllocError, Global};
 
-// The longest record: a header of 6 bytes and a payload of 32,768.
-const LONGEST_RECORD: usize = 32774;
-
-// The room that a table is to have.
-#[derive(Clone, Copy)]
-pub struct Room {
-    rows: u64,
-    records: u64,
-    bytes: u64,
-}
+const LONGEST_RECORD: usize = HEADER_LEN + LONGEST_PAYLOAD;
 
 #[derive(Drop)]
 pub struct Bench {
@@ -47,25 +39,17 @@ impl Bench {
     pub(crate) fn issue(
         &mut self,
         rt: &HostRuntime,
-        number: u64,
-        written: &str,
+        line: Line<'_>,
         call: Call,
     ) -> anyhow::Result<()> {
+        let written = line.written();
         match call {
             Call::Blank => {}
-            Call::Room {
-                rows,
-                records,
-                bytes,
-            } => {
-                self.room = Room {
-                    rows,
-                    records,
-                    bytes,
-                };
+            Call::Room(room) => {
+                self.room = room;
                 println!(rt; "{written}: ok")?;
             }
-            Call::Row(row) => self.add_row(rt, number, written, &row)?,
+            Call::Row(row) => self.add_row(rt, line, &row)?,
             Call::Raw(bytes) => {
                 let count = bytes.len();
                 self.collected.extend_from_slice(&bytes)?;
@@ -76,34 +60,22 @@ impl Bench {
         Ok(())
     }
 
-    fn add_row(
-        &mut self,
-        rt: &HostRuntime,
-        number: u64,
-        written: &str,
-        line: &RowLine,
-    ) -> anyhow::Result<()> {
+    fn add_row(&mut self, rt: &HostRuntime, line: Line<'_>, told: &RowLine) -> anyhow::Result<()> {
+        let number = line.number;
+        let written = line.written();
         let row = Row {
-            number: line.number,
-            sort: line.sort,
-            flags: line.flags,
-            exports: line.exports,
-            mark: line.mark,
-            id: line.id.as_slice(),
-            stable_id: line.stable_id.as_slice(),
-            records: line.records.as_slice(),
+            number: told.number,
+            facts: told.facts,
+            id: told.id.as_slice(),
+            stable_id: told.stable_id.as_slice(),
+            records: told.records.as_slice(),
         };
         match row.pack(&mut self.page) {
             Ok(len) => {
-                self.collected.extend_from_slice(&self.page[0..len])?;
+                self.collected.extend_from_slice(&self.page[..len])?;
                 println!(rt; "{written}: ok {len}")?;
             }
-            Err(PackFault::Unfit) => {
-                println!(rt; "line {number}: the row does not fit the layout")?
-            }
-            Err(PackFault::Short { wanted }) => {
-                println!(rt; "line {number}: the page has no room for {wanted} bytes")?
-            }
+            Err(fault) => println!(rt; "line {number}: {fault}")?,
         }
         Ok(())
     }
@@ -116,27 +88,17 @@ impl Bench {
                 let places = Vec::with_capacity(self.heap, count)?;
                 show_list(rt, &self.collected, places)?;
             }
-            Err(fault) => refuse(rt, written, fault)?,
+            Err(fault) => println!(rt; "{written}: {fault}")?,
         }
         self.collected.clear();
         Ok(())
     }
 }
 
-fn refuse(rt: &HostRuntime, written: &str, fault: RowFault) -> anyhow::Result<()> {
-    let number = fault.number();
-    let offset = fault.offset();
-    println!(rt; "{written}: refused {number} at {offset}")?;
-    Ok(())
-}
-
 fn show_list(rt: &HostRuntime, bytes: &[u8], places: Vec<usize>) -> anyhow::Result<()> {
     if let Ok(rows) = PackedRows::open(bytes, places) {
-        for k in 0..rows.len() {
-            if let Some(row) = rows.row(k) {
-                let text = row_text(rt.alloc(), &row)?;
-                println!(rt; "  {text}")?;
-            }
+        for (_, row) in rows.entries() {
+            println!(rt; "  {}", Shown(row))?;
         }
     }
     Ok(())

@@ -1,93 +1,101 @@
 // Rows in the words of the script.
-use packed::fields::take_import;
-use packed::view::{RowHead, RowView};
+use packed::view::RowView;
 use rows::{ExportsKind, Flags, ImportKind, ImportRecord, Sort};
-use std::alloc::{AllocError, Global};
+use std::fmt;
 
-// A word that the script would read as its own bytes.
-fn is_plain(bytes: &[u8]) -> bool {
-    if let [b'x', b'\'', ..] = bytes {
-        return false;
+// A name: its own bytes where they make a plain word, else in base sixteen.
+#[derive(Clone, Copy)]
+struct Name<'a>(&'a [u8]);
+
+impl Name<'_> {
+    // The script would read its bytes as they are.
+    fn is_plain(&self) -> bool {
+        !self.0.starts_with(b"x'") && self.0.iter().all(|b| b.is_ascii_graphic() && *b != b'#')
     }
-    for b in bytes {
-        if *b <= 32 || *b >= 127 || *b == b'#' {
-            return false;
+}
+
+impl fmt::Display for Name<'_> {
+    fn fmt<W: fmt::Write>(&self, f: &mut fmt::Formatter<W>) -> fmt::Result {
+        if self.is_plain() {
+            for b in self.0 {
+                f.write_char(char::from(*b))?;
+            }
+            return Ok(());
         }
-    }
-    true
-}
-
-fn push_name(heap: Global, text: &mut String, bytes: &[u8]) -> Result<(), AllocError> {
-    text.push(' ')?;
-    if is_plain(bytes) {
-        for b in bytes {
-            text.push(char::from(*b))?;
+        f.write_str("x'")?;
+        for b in self.0 {
+            write!(f, "{b:02x}")?;
         }
-        return Ok(());
+        f.write_char('\'')
     }
-    text.push_str("x'")?;
-    for b in bytes {
-        let b = *b;
-        text.push_str(format!(in heap; "{b:02x}")?.as_str())?;
-    }
-    text.push('\'')
 }
 
-fn push_flags(text: &mut String, flags: Flags) -> Result<(), AllocError> {
-    if flags.self_accepting {
-        text.push_str(" self")?;
+// The flags that are set, with a blank before each.
+#[derive(Clone, Copy)]
+struct FlagWords(Flags);
+
+impl fmt::Display for FlagWords {
+    fn fmt<W: fmt::Write>(&self, f: &mut fmt::Formatter<W>) -> fmt::Result {
+        if self.0.self_accepting {
+            f.write_str(" self")?;
+        }
+        if self.0.lazy_export {
+            f.write_str(" lazy")?;
+        }
+        if self.0.entry {
+            f.write_str(" entry")?;
+        }
+        Ok(())
     }
-    if flags.lazy_export {
-        text.push_str(" lazy")?;
-    }
-    if flags.entry {
-        text.push_str(" entry")?;
-    }
-    Ok(())
 }
 
-fn push_head(heap: Global, text: &mut String, head: &RowHead<'_>) -> Result<(), AllocError> {
-    push_name(heap, text, head.id)?;
-    push_name(heap, text, head.stable_id)?;
-    if let Sort::External = head.sort {
-        text.push_str(" external")?;
-    }
-    push_flags(text, head.flags)?;
-    match head.exports {
-        ExportsKind::None => {}
-        ExportsKind::Esm => text.push_str(" esm")?,
-        ExportsKind::CommonJs => text.push_str(" cjs")?,
-    }
-    let mark = head.mark;
-    text.push_str(format!(in heap; " mark={mark}")?.as_str())
-}
+// An import record.
+#[derive(Clone, Copy)]
+struct Link(ImportRecord);
 
-fn push_import(heap: Global, text: &mut String, record: ImportRecord) -> Result<(), AllocError> {
-    let kind = match record.kind {
-        ImportKind::Import => " import:",
-        ImportKind::Require => " require:",
-        ImportKind::DynamicImport => " dynamic:",
-        ImportKind::HotAccept => " accept:",
-    };
-    text.push_str(kind)?;
-    match record.target {
-        Some(row) => text.push_str(format!(in heap; "{row}")?.as_str()),
-        None => text.push('-'),
+impl fmt::Display for Link {
+    fn fmt<W: fmt::Write>(&self, f: &mut fmt::Formatter<W>) -> fmt::Result {
+        f.write_str(match self.0.kind {
+            ImportKind::Import => "import:",
+            ImportKind::Require => "require:",
+            ImportKind::DynamicImport => "dynamic:",
+            ImportKind::HotAccept => "accept:",
+        })?;
+        match self.0.target {
+            Some(row) => write!(f, "{row}"),
+            None => f.write_char('-'),
+        }
     }
 }
 
 // A row, as the script would tell it.
-pub(crate) fn row_text(heap: Global, row: &RowView<'_>) -> Result<String, AllocError> {
-    let number = row.head.number;
-    let mut text = format!(in heap; "row {number}")?;
-    push_head(heap, &mut text, &row.head)?;
-    let mut rest = row.imports;
-    for _i in 0..row.count {
-        let Some((record, more)) = take_import(rest) else {
-            break;
-        };
-        push_import(heap, &mut text, record)?;
-        rest = more;
+#[derive(Clone, Copy)]
+pub(crate) struct Shown<'a>(pub(crate) RowView<'a>);
+
+impl fmt::Display for Shown<'_> {
+    fn fmt<W: fmt::Write>(&self, f: &mut fmt::Formatter<W>) -> fmt::Result {
+        let head = self.0.head;
+        let facts = head.facts;
+        write!(
+            f,
+            "row {} {} {}",
+            head.number,
+            Name(head.id),
+            Name(head.stable_id)
+        )?;
+        if facts.sort == Sort::External {
+            f.write_str(" external")?;
+        }
+        write!(f, "{}", FlagWords(facts.flags))?;
+        f.write_str(match facts.exports {
+            ExportsKind::None => "",
+            ExportsKind::Esm => " esm",
+            ExportsKind::CommonJs => " cjs",
+        })?;
+        write!(f, " mark={}", facts.mark)?;
+        for record in self.0.imports {
+            write!(f, " {}", Link(record))?;
+        }
+        Ok(())
     }
-    Ok(text)
 }

@@ -1,7 +1,8 @@
 pub mod Parts
+pub mod Adding
 pub mod Growth
-pub mod Decoding
-pub mod Merging
+pub mod Totals
 pub mod Putting
+pub mod Merging
 pub mod Room
 pub mod Renewing

@@ -8,7 +8,8 @@ use Rattle.rows.specs.Numbers.{all_of, total}
 use Rattle.rows.specs.Rows.{Row, nowhere}
 use Rattle.project.specs.Rescan.{records_of}
 use Rattle.row_store.specs.Renewed.{change_at, coming, renewed, given_records, given_bytes, fresh}
-use Rattle.row_store.proofs.Merging.{total-append, coming-records}
+use Rattle.row_store.proofs.Totals.{total-append}
+use Rattle.row_store.proofs.Merging.{coming-records}
 
 -- one row comes of a row, and of a row that is given
 comes-held : (old g : Option Row) (r : Row) → old ≡ Some r → length (coming old g) ≡ 1

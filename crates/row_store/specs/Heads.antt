@@ -1,24 +1,21 @@
--- The heads of rows that are added to a side.
-use Rattle.std.specs.Prelude.{ℕ, ◌+◌, List, length}
+-- A side that grows by a row.
+use Rattle.std.specs.Prelude.{ℕ, ◌+◌, List, [], ◌∷◌, length}
 use Rattle.rows.specs.declared.Facts.{Facts}
 use Rattle.rows.specs.declared.ImportRecord.{ImportRecord}
-use Rattle.packed.specs.declared.view.RowHead.{RowHead}
-use Rattle.row_store.specs.declared.Span.{Span}
+use Rattle.row_store.specs.declared.Names.{Names}
 use Rattle.row_store.specs.declared.Head.{Head}
-use Rattle.row_store.specs.declared.store.add.Names.{Names}
-
--- the facts of a row that was read
-abbrev pub facts_in : RowHead → Facts
-facts_in h = record { sort = h.sort; flags = h.flags; exports = h.exports; mark = h.mark }
-
--- where the names of a row lie
-abbrev pub names_in : Head → Names
-names_in h = record { id = h.id; stable_id = h.stable_id }
+use Rattle.row_store.specs.declared.Side.{Side}
+use Rattle.row_store.specs.Cuts.{span}
+use Rattle.row_store.specs.Filled.{added}
 
 -- where names lie that follow the bytes
 abbrev pub names_after : List ℕ → List ℕ → List ℕ → Names
-names_after bytes id stable_id = record { id = record { start = length bytes; len = length id }; stable_id = record { start = length bytes + length id; len = length stable_id } }
+names_after bytes id stable_id = record { id = span (length bytes) (length id); stable_id = span (length bytes + length id) (length stable_id) }
 
 -- the head of a row with these names, whose import records follow those that are held
-abbrev pub head_with : Span → Span → Facts → List ImportRecord → List ImportRecord → Head
-head_with id stable_id f held records = record { facts = f; id = id; stable_id = stable_id; records = record { start = length held; len = length records } }
+abbrev pub head_with : Names → Facts → List ImportRecord → List ImportRecord → Head
+head_with names f held records = record { facts = f; names = names; records = span (length held) (length records) }
+
+-- the side with one row more
+abbrev pub with_row : Side → Names → Facts → List ImportRecord → Side
+with_row s names f records = record { heads = added s.heads (head_with names f s.records.items records ∷ []); records = added s.records records }

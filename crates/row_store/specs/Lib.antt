@@ -1,3 +1,4 @@
+pub mod Filled
 pub mod Cuts
 pub mod Sides
 pub mod Views

@@ -1,11 +1,18 @@
 -- What a rewrite makes of the rows, and what it takes of the room.
 use Rattle.std.specs.Prelude.{ℕ, ◌+◌, min, Bool, ◌||◌, List, [], ◌∷◌, ◌++◌, length, drop, Some, None, Option, nat_lt, slice_index_or}
 use Rattle.std.specs.List.{slice_get}
+use Rattle.std.specs.Option.{option_map}
 use Rattle.rows.specs.Numbers.{total}
 use Rattle.rows.specs.Rows.{Row, facts_of}
+use Rattle.packed.specs.declared.view.RowView.{RowView}
+use Rattle.packed.specs.Views.{shown}
 use Rattle.project.specs.declared.Room.{Room}
 use Rattle.row_store.specs.Cuts.{row_from}
 use Rattle.project.specs.Rescan.{records_of, bytes_of}
+
+-- the row that is given, if one is, as a view shows it
+abbrev pub row_given : Option RowView → Option Row
+row_given o = option_map (λ v. (shown v).1) o
 
 -- what is given for the row of a number
 abbrev pub change_at : List (Option Row) → ℕ → Option Row
@@ -36,10 +43,11 @@ abbrev pub weigh : (Row → ℕ) → Option Row → ℕ
 weigh f None = 0
 weigh f (Some q) = f q
 
--- how many import records are given, and how many bytes of names
+-- how many import records are given
 abbrev pub given_records : Option Row → ℕ
 given_records = weigh records_of
 
+-- how many bytes of names are given
 abbrev pub given_bytes : Option Row → ℕ
 given_bytes = weigh bytes_of
 

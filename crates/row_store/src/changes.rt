@@ -1,9 +1,7 @@
 // What a rewrite gives for the rows by number.
 ghost use Rattle.std.specs.Prelude.{◌≡◌, List, length, Option as Maybe};
-ghost use Rattle.std.specs.Option.{option_map};
 ghost use Rattle.rows.specs.Rows.{Row as TheRow};
-ghost use Rattle.packed.specs.Views.{shown, Whole};
-ghost use Rattle.row_store.specs.Renewed.{change_at};
+ghost use Rattle.row_store.specs.Renewed.{change_at, row_given};
 
 use packed::view::RowView;
 
@@ -15,6 +13,5 @@ pub trait Changes {
         ensures { result ≡ length (given self.now) };
 
     fn change(&self, row: u16) -> Option<RowView<'_>>
-        ensures shown { option_map (λ v. (shown v).1) result ≡ change_at (given self.now) row }
-        ensures whole { Whole result };
+        ensures { row_given result ≡ change_at (given self.now) row };
 }

@@ -19,13 +19,13 @@ pub struct TableView<'a> {
 
 impl TableView<'_> {
     // The import records of a row; none where there is no such row.
+    #[tactic(auto, using(crate::proofs::Parts::looking))]
     fn records_of(&self, row: u16) -> &[ImportRecord]
         ensures { result.now ≡ (at (viewed self.now) row).records }
     {
-        match head_at(self.heads, row) {
-            Some(head) => part(self.records, head.records),
-            None => &[],
-        }
+        head_at(self.heads, row)
+            .map(|head| part(self.records, head.records))
+            .unwrap_or_default()
     }
 }
 
@@ -37,24 +37,15 @@ impl Graph for TableView<'_> {
     }
 
     fn facts(&self, row: u16) -> Option<Facts> {
-        match head_at(self.heads, row) {
-            Some(head) => Some(head.facts),
-            None => None,
-        }
+        head_at(self.heads, row).map(|head| head.facts)
     }
 
     fn id(&self, row: u16) -> Option<&[u8]> {
-        match head_at(self.heads, row) {
-            Some(head) => Some(part(self.bytes, head.id)),
-            None => None,
-        }
+        head_at(self.heads, row).map(|head| part(self.bytes, head.names.id))
     }
 
     fn stable_id(&self, row: u16) -> Option<&[u8]> {
-        match head_at(self.heads, row) {
-            Some(head) => Some(part(self.bytes, head.stable_id)),
-            None => None,
-        }
+        head_at(self.heads, row).map(|head| part(self.bytes, head.names.stable_id))
     }
 
     fn record_count(&self, row: u16) -> usize {
@@ -62,12 +53,7 @@ impl Graph for TableView<'_> {
     }
 
     fn record(&self, row: u16, place: usize) -> Option<ImportRecord> {
-        let records = self.records_of(row);
-        if place < records.len() {
-            Some(records[place])
-        } else {
-            None
-        }
+        self.records_of(row).get(place).copied()
     }
 }
 
@@ -75,12 +61,7 @@ impl Graph for TableView<'_> {
 pub(crate) fn head_at(heads: &[Head], row: u16) -> Option<Head>
     ensures { result ≡ slice_get heads.now row }
 {
-    let place = row as usize;
-    if place < heads.len() {
-        Some(heads[place])
-    } else {
-        None
-    }
+    heads.get(usize::from(row)).copied()
 }
 
 // The part of a slice, as far as it lies within.

@@ -1,10 +1,10 @@
 -- Lists of numbers: tests, sums, and lists as sets.
-use Rattle.std.specs.Prelude.{ℕ, ◌+◌, Bool, true, false, ◌&&◌, ◌||◌, List, [], ◌∷◌, ◌++◌, nat_eq}
+use Rattle.std.specs.Prelude.{ℕ, ◌+◌, Bool, false, ◌||◌, List, [], ◌∷◌, ◌++◌, nat_eq}
+use Rattle.std.specs.List.{list_any, list_all}
 
 -- whether an item of the list passes the test
 abbrev pub any : {A : Type 0} → (A → Bool) → List A → Bool
-any p [] = false
-any p (x ∷ xs) = p x || any p xs
+any p xs = list_any p xs
 
 -- whether the number stands in the list
 abbrev pub member : ℕ → List ℕ → Bool
@@ -17,8 +17,7 @@ concat (xs ∷ xss) = xs ++ concat xss
 
 -- whether every item of the list passes the test
 abbrev pub all_of : {A : Type 0} → (A → Bool) → List A → Bool
-all_of p [] = true
-all_of p (x ∷ xs) = p x && all_of p xs
+all_of p xs = list_all p xs
 
 -- whether a number stands in the list twice
 abbrev pub repeats : List ℕ → Bool

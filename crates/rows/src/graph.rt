@@ -15,6 +15,7 @@ pub trait Graph {
     fn facts(&self, row: u16) -> Option<Facts>
         ensures { result ≡ option_map facts_of (slice_get (rows self.now) row) };
 
+    // The two names have a method each, as they are two fields of a row: one by kind would be a `match` in each impl, and no shorter.
     fn id(&self, row: u16) -> Option<&[u8]>
         ensures { option_map (λ x. x.now) result ≡ option_map (λ q. q.id) (slice_get (rows self.now) row) };
 

@@ -4,15 +4,17 @@
 pub mod graph;
 
 // What a row stands for: a module of the project, or something outside of it.
-#[derive(Clone, Copy, PartialEq, Eq, Debug)]
+#[derive(Clone, Copy, PartialEq, Eq, Debug, Default)]
 pub enum Sort {
+    #[default]
     Normal,
     External,
 }
 
 // How a module exports: not at all, as an ES module, or as CommonJS.
-#[derive(Clone, Copy, PartialEq, Eq, Debug)]
+#[derive(Clone, Copy, PartialEq, Eq, Debug, Default)]
 pub enum ExportsKind {
+    #[default]
     None,
     Esm,
     CommonJs,
@@ -35,7 +37,7 @@ pub struct ImportRecord {
 }
 
 // What a module says of itself.
-#[derive(Clone, Copy, PartialEq, Eq, Debug)]
+#[derive(Clone, Copy, PartialEq, Eq, Debug, Default)]
 pub struct Flags {
     pub self_accepting: bool,
     pub lazy_export: bool,
@@ -43,7 +45,7 @@ pub struct Flags {
 }
 
 // A row, besides its names and its import records.
-#[derive(Clone, Copy)]
+#[derive(Clone, Copy, PartialEq, Eq, Debug, Default)]
 pub struct Facts {
     pub sort: Sort,
     pub flags: Flags,

@@ -1,6 +1,5 @@
 -- What the code's readings of a line mean.
-use Rattle.std.specs.Prelude.{◌≡◌, ℕ, List, Ok, Err, vec_items, Result, Vec}
-use Rattle.std.specs.Borrow.{Bor}
+use Rattle.std.specs.Prelude.{◌≡◌, ℕ, List, None, Some, Ok, Err, vec_items, Option, Result, Vec, ◌⊎◌}
 use Rattle.std.specs.declared.alloc.Global.{Global}
 use Rattle.rows.specs.Rows.{Row as TheRow}
 use Rattle.script.specs.declared.call.RowLine.{RowLine}
@@ -12,7 +11,7 @@ use Rattle.script.specs.Lines.{Line, blank, room, row, raw, list}
 
 -- the row that a line tells
 abbrev pub row_in : RowLine → TheRow
-row_in r = record { sort = r.sort; flags = r.flags; exports = r.exports; mark = r.mark; id = vec_items r.id; stable_id = vec_items r.stable_id; records = vec_items r.records }
+row_in r = record { sort = r.facts.sort; flags = r.facts.flags; exports = r.facts.exports; mark = r.facts.mark; id = vec_items r.id; stable_id = vec_items r.stable_id; records = vec_items r.records }
 
 abbrev pub numbered : RowLine → ℕ × TheRow
 numbered r = (r.number, row_in r)
@@ -20,7 +19,7 @@ numbered r = (r.number, row_in r)
 -- the line that a call stands for
 abbrev pub meaning : Call → Line
 meaning Blank = blank
-meaning (Room rows records bytes) = room rows records bytes
+meaning (Room r) = room r.rows r.records r.bytes
 meaning (Row r) = row (numbered r)
 meaning (Raw v) = raw (vec_items v)
 meaning ListCall = list
@@ -40,10 +39,7 @@ abbrev pub Reads : {A B : Type 0} → (A → B) → Result A LineFault → Resul
 Reads f (Ok a) line = Ok (f a) ≡ line
 Reads f (Err fault) line = Wrong fault line
 
--- a value and what stands after it
-abbrev pub after : {A : Type 0} → Result (A × Bor (List ℕ)) LineFault → Result (A × List ℕ) LineFault
-after (Ok p) = Ok (p.0, p.1.now)
-after (Err fault) = Err fault
-
-abbrev pub bytes_after : Vec ℕ Global × Bor (List ℕ) → List ℕ × List ℕ
-bytes_after p = (vec_items p.0, p.1.now)
+-- the bytes that are there, or that there are none, unless there was no memory for them
+abbrev pub BytesOr : Result (Vec ℕ Global) LineFault → Option (List ℕ) → Type 0
+BytesOr (Ok v) bytes = Some (vec_items v) ≡ bytes
+BytesOr (Err fault) bytes = (fault ≡ Memory) ⊎ ((fault ≡ NotBytes) × (None ≡ bytes))

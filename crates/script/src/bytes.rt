@@ -1,91 +1,47 @@
 // The bytes that a word stands for.
-ghost use Rattle.std.specs.Prelude.{◌≡◌, IfOk, vec_items};
-ghost use Rattle.std.specs.Option.{option_map};
-ghost use Rattle.std.specs.Str.{bytes_eq};
-ghost use Rattle.script.specs.Words.{hex_digit, hex_byte, hex_of, stripped, unquoted, bytes_of};
+ghost use Rattle.std.specs.Prelude.{◌≡◌, ◌<◌, IfSome};
+ghost use Rattle.script.specs.Words.{hex_digit, hex_byte, hex_of, bytes_of};
+ghost use Rattle.script.specs.Parsed.{BytesOr};
 
-use std::alloc::{AllocError, Global};
+use crate::call::LineFault;
+use std::alloc::Global;
 
-pub(crate) fn is_word(word: &[u8], text: &[u8]) -> bool
-    ensures { result ≡ bytes_eq word.now text.now }
+// A digit of base sixteen, in letters of either case.
+fn hex_digit(b: u8) -> Option<u32>
+    ensures value { result ≡ hex_digit b }
+    ensures below { IfSome result (λ d. d < 16) }
 {
-    word == text
-}
-
-// What stands after a prefix of a word.
-pub(crate) fn strip<'a>(prefix: &[u8], word: &'a [u8]) -> Option<&'a [u8]>
-    ensures { option_map (λ x. x.now) result ≡ stripped prefix.now word.now }
-{
-    let (front, rest) = word.split_at_checked(prefix.len())?;
-    if is_word(front, prefix) {
-        Some(rest)
-    } else {
-        None
-    }
-}
-
-fn hex_digit(b: u8) -> Option<u8>
-    ensures { result ≡ hex_digit b }
-{
-    if b >= 48 && b <= 57 {
-        Some(b - 48)
-    } else if b >= 97 && b <= 102 {
-        Some(b - 87)
-    } else if b >= 65 && b <= 70 {
-        Some(b - 55)
-    } else {
-        None
-    }
+    char::from(b).to_digit(16)
 }
 
 fn hex_byte(high: u8, low: u8) -> Option<u8>
     ensures { result ≡ hex_byte high low }
 {
-    let h = hex_digit(high)?;
-    let l = hex_digit(low)?;
-    Some(h * 16 + l)
+    u8::try_from(hex_digit(high)? * 16 + hex_digit(low)?).ok()
 }
 
 // Bytes in base sixteen, two digits each.
-pub(crate) fn hex_of(heap: Global, word: &[u8]) -> Result<Option<Vec<u8>>, AllocError>
-    ensures { IfOk result (λ o. option_map vec_items o ≡ hex_of word.now) }
+pub(crate) fn hex_of(heap: Global, word: &[u8]) -> Result<Vec<u8>, LineFault>
+    ensures { BytesOr result (hex_of word.now) }
 {
+    let (pairs, odd) = word.as_chunks::<2>();
+    if !odd.is_empty() {
+        return Err(LineFault::NotBytes);
+    }
     let mut bytes = Vec::new(heap);
-    let mut digits = word;
-    while let [high, low, rest @ ..] = digits {
-        let Some(b) = hex_byte(*high, *low) else {
-            return Ok(None);
-        };
-        bytes.push(b)?;
-        digits = rest;
+    for [high, low] in pairs {
+        bytes.push(hex_byte(*high, *low).ok_or(LineFault::NotBytes)?)?;
     }
-    if digits.is_empty() {
-        Ok(Some(bytes))
-    } else {
-        Ok(None)
-    }
+    Ok(bytes)
 }
 
-fn unquote(digits: &[u8]) -> Option<&[u8]>
-    ensures { option_map (λ x. x.now) result ≡ unquoted digits.now }
+// The bytes of a word: those in base sixteen between `x'` and a last quote, else its own.
+pub(crate) fn bytes_of(heap: Global, word: &[u8]) -> Result<Vec<u8>, LineFault>
+    ensures { BytesOr result (bytes_of word.now) }
 {
-    let n = digits.len();
-    if n >= 1 && digits[n - 1] == b'\'' {
-        Some(&digits[0..n - 1])
-    } else {
-        None
-    }
-}
-
-// The bytes of a word: those in base sixteen between quotes, else its own.
-pub(crate) fn bytes_of(heap: Global, word: &[u8]) -> Result<Option<Vec<u8>>, AllocError>
-    ensures { IfOk result (λ o. option_map vec_items o ≡ bytes_of word.now) }
-{
-    match strip(b"x'", word) {
-        None => Ok(Some(Vec::from_slice(heap, word)?)),
-        Some(digits) => match unquote(digits) {
-            None => Ok(None),
-            Some(inner) => hex_of(heap, inner),
-        },
-    }
+    let Some(quoted) = word.strip_prefix(b"x'") else {
+        return Ok(Vec::from_slice(heap, word)?);
+    };
+    let digits = quoted.strip_suffix(b"'").ok_or(LineFault::NotBytes)?;
+    hex_of(heap, digits)
 }

@@ -4,5 +4,6 @@
 mod bytes;
 pub mod call;
 pub mod line;
+mod numbers;
 mod setting;
 pub mod words;

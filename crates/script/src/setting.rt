@@ -2,8 +2,7 @@
 ghost use Rattle.std.specs.Prelude.{◌≡◌};
 ghost use Rattle.script.specs.Lines.{target_of, link_to, link_of, mark_of, setting_of};
 
-use crate::bytes::{is_word, strip};
-use crate::words::{number_of, short_of};
+use crate::numbers::{number_of, short_of};
 use rows::{ImportKind, ImportRecord};
 
 #[derive(Clone, Copy)]
@@ -18,67 +17,59 @@ pub enum Setting {
     Link(ImportRecord),
 }
 
-fn target_of(word: &[u8]) -> Option<Option<u16>>
-    ensures { result ≡ target_of word.now }
-{
-    if is_word(word, b"-") {
-        return Some(None);
-    }
-    let row = short_of(word)?;
-    Some(Some(row))
-}
-
+// An import record that leads to a row, or to none where the word is `-`.
 fn link_to(kind: ImportKind, word: &[u8]) -> Option<Setting>
     ensures { result ≡ link_to kind word.now }
 {
-    let target = target_of(word)?;
+    let target = match word {
+        b"-" => None,
+        row => Some(short_of(row).ok()?),
+    };
     Some(Setting::Link(ImportRecord { kind, target }))
 }
 
+// How the words of import records begin.
+const LINKS: [(&[u8], ImportKind); 4] = [
+    (b"import:", ImportKind::Import),
+    (b"require:", ImportKind::Require),
+    (b"dynamic:", ImportKind::DynamicImport),
+    (b"accept:", ImportKind::HotAccept),
+];
+
+// An import record, as `import:3`.
 fn link_of(word: &[u8]) -> Option<Setting>
     ensures { result ≡ link_of word.now }
 {
-    if let Some(to) = strip(b"import:", word) {
-        link_to(ImportKind::Import, to)
-    } else if let Some(to) = strip(b"require:", word) {
-        link_to(ImportKind::Require, to)
-    } else if let Some(to) = strip(b"dynamic:", word) {
-        link_to(ImportKind::DynamicImport, to)
-    } else if let Some(to) = strip(b"accept:", word) {
-        link_to(ImportKind::HotAccept, to)
-    } else {
-        None
+    // No `find_map`: what the library says of it leaves open that the answer at which it stopped is a `Some`.
+    for (prefix, kind) in LINKS {
+        if let Some(to) = word.strip_prefix(prefix) {
+            return link_to(kind, to);
+        }
     }
+    None
 }
 
+// An output mark, as `mark=7`, or an import record.
 fn mark_of(word: &[u8]) -> Option<Setting>
     ensures { result ≡ mark_of word.now }
 {
-    match strip(b"mark=", word) {
-        Some(digits) => {
-            let mark = number_of(digits)?;
-            Some(Setting::Mark(mark))
-        }
+    match word.strip_prefix(b"mark=") {
+        Some(digits) => number_of(digits).ok().map(Setting::Mark),
         None => link_of(word),
     }
 }
 
+// What the word sets, if it is one that a row can be told.
 pub(crate) fn setting_of(word: &[u8]) -> Option<Setting>
     ensures { result ≡ setting_of word.now }
 {
-    if is_word(word, b"external") {
-        Some(Setting::Outside)
-    } else if is_word(word, b"self") {
-        Some(Setting::SelfAccepting)
-    } else if is_word(word, b"lazy") {
-        Some(Setting::LazyExport)
-    } else if is_word(word, b"entry") {
-        Some(Setting::Entry)
-    } else if is_word(word, b"esm") {
-        Some(Setting::Esm)
-    } else if is_word(word, b"cjs") {
-        Some(Setting::CommonJs)
-    } else {
-        mark_of(word)
+    match word {
+        b"external" => Some(Setting::Outside),
+        b"self" => Some(Setting::SelfAccepting),
+        b"lazy" => Some(Setting::LazyExport),
+        b"entry" => Some(Setting::Entry),
+        b"esm" => Some(Setting::Esm),
+        b"cjs" => Some(Setting::CommonJs),
+        _ => mark_of(word),
     }
 }

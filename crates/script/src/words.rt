@@ -1,10 +1,14 @@
-// The words of a line, and the numbers and bytes that they stand for.
-ghost use Rattle.std.specs.Prelude.{◌≡◌, ◌≤◌, length};
-ghost use Rattle.script.specs.Words.{kind_of, same_kind, span, next_word, at_end, digit_of, pushed, number_of, short_of};
-ghost use Rattle.packed.specs.Views.{cut};
+// The words of a line.
+ghost use Rattle.std.specs.Prelude.{◌≡◌, ◌≤◌, length, Ok, Err, cond, MatchResult, None, Some};
+ghost use Rattle.std.specs.Option.{option_map};
+ghost use Rattle.std.specs.Iterator.{at_most};
+ghost use Rattle.script.specs.declared.call.LineFault.TheVariants.{MissingWord, SurplusWord};
+ghost use Rattle.script.specs.Words.{kind_of, span, next_word, at_end};
+
+use crate::call::LineFault;
 
 // What a byte is to the words of a line.
-#[derive(Clone, Copy)]
+#[derive(Clone, Copy, PartialEq, Eq)]
 pub enum ByteKind {
     Blank,
     Comment,
@@ -21,88 +25,54 @@ fn kind_of(b: u8) -> ByteKind
     }
 }
 
-fn same_kind(a: ByteKind, b: ByteKind) -> bool
-    ensures { result ≡ same_kind a b }
-{
-    matches!(
-        (a, b),
-        (ByteKind::Blank, ByteKind::Blank)
-            | (ByteKind::Comment, ByteKind::Comment)
-            | (ByteKind::Letter, ByteKind::Letter)
-    )
-}
-
 // How many bytes of one kind stand at the front.
 fn span_of(kind: ByteKind, bytes: &[u8]) -> usize
     ensures value { result ≡ span kind bytes.now }
     ensures within { result ≤ length bytes.now }
 {
-    for (i, b) in bytes.iter().enumerate() {
-        if !same_kind(kind_of(*b), kind) {
-            return i;
+    bytes.iter().take_while(|b| kind_of(**b) == kind).count()
+}
+
+// The words of a line that are still to be read.
+#[derive(Drop)]
+pub(crate) struct Words<'a> {
+    pub(crate) rest: &'a [u8],
+}
+
+impl<'a> Iterator for Words<'a> {
+    type Item = &'a [u8];
+
+    ghost next_gives = { λ s r t. option_map (λ w. (w.now, t.rest.now)) r ≡ next_word s.rest.now };
+
+    // A word takes some bytes.
+    ghost remaining = { λ s. at_most (length s.rest.now) };
+
+    fn next(&mut self) -> Option<&'a [u8]> {
+        let rest = &self.rest[span_of(ByteKind::Blank, self.rest)..];
+        let (word, rest) = rest.split_at(span_of(ByteKind::Letter, rest));
+        if word.is_empty() {
+            return None;
+        }
+        self.rest = rest;
+        Some(word)
+    }
+}
+
+impl<'a> Words<'a> {
+    // The next word, where there has to be one.
+    pub(crate) fn next_word(&mut self) -> Result<&'a [u8], LineFault>
+        ensures { MatchResult result (λ w. Some (w.now, self.new.rest.now) ≡ next_word self.old.rest.now) (λ f. (f ≡ MissingWord) × (None ≡ next_word self.old.rest.now)) }
+    {
+        self.next().ok_or(LineFault::MissingWord)
+    }
+
+    // No word is left over.
+    pub(crate) fn end(mut self) -> Result<(), LineFault>
+        ensures { result ≡ cond (at_end self.entry.rest.now) (Ok tt) (Err SurplusWord) }
+    {
+        match self.next() {
+            None => Ok(()),
+            Some(_) => Err(LineFault::SurplusWord),
         }
     }
-    bytes.len()
-}
-
-// The first word of a line, and what stands after it.
-pub(crate) fn next_word(line: &[u8]) -> Option<(&[u8], &[u8])>
-    ensures { cut result ≡ next_word line.now }
-{
-    let (_, rest) = line.split_at(span_of(ByteKind::Blank, line));
-    let len = span_of(ByteKind::Letter, rest);
-    if len == 0 {
-        return None;
-    }
-    Some(rest.split_at(len))
-}
-
-pub(crate) fn at_end(line: &[u8]) -> bool
-    ensures { result ≡ at_end line.now }
-{
-    match next_word(line) {
-        Some(_) => false,
-        None => true,
-    }
-}
-
-fn digit_of(b: u8) -> Option<u8>
-    ensures { result ≡ digit_of b }
-{
-    if b < b'0' {
-        return None;
-    }
-    if b > b'9' {
-        return None;
-    }
-    Some(b - b'0')
-}
-
-fn push_digit(n: u64, b: u8) -> Option<u64>
-    ensures { result ≡ pushed n b }
-{
-    let d = digit_of(b)?;
-    n.checked_mul(10)?.checked_add(u64::from(d))
-}
-
-// A number in base ten.
-pub(crate) fn number_of(word: &[u8]) -> Option<u64>
-    ensures { result ≡ number_of word.now }
-{
-    if word.is_empty() {
-        return None;
-    }
-    let mut n: u64 = 0;
-    for b in word {
-        n = push_digit(n, *b)?;
-    }
-    Some(n)
-}
-
-// A number of at most 16 bits.
-pub(crate) fn short_of(word: &[u8]) -> Option<u16>
-    ensures { result ≡ short_of word.now }
-{
-    let n = number_of(word)?;
-    if n < 65536 { Some(n as u16) } else { None }
 }

@@ -1,20 +1,17 @@
 // The rows are rewritten into the other side, and the sides change places.
-ghost use Rattle.std.specs.Prelude.{◌≡◌, ◌+◌, not, ◌&&◌, length, is_ok, if◌then◌else◌, vec_capacity, MatchResult, OnErr, nat_le};
-ghost use Rattle.std.specs.Option.{option_map};
+ghost use Rattle.std.specs.Prelude.{◌≡◌, ◌+◌, not, ◌&&◌, length, is_ok, is_some, IfSome, if◌then◌else◌, MatchResult, OnErr, nat_le};
 ghost use Rattle.rows.specs.Numbers.{total};
-ghost use Rattle.packed.specs.Views.{shown, Whole};
 ghost use Rattle.row_store.specs.Sides.{SameSize};
 ghost use Rattle.row_store.specs.Stores.{rows_now, rows_before, written};
-ghost use Rattle.row_store.specs.Renewed.{renewed, given_records, given_bytes, overfull, fresh};
+ghost use Rattle.row_store.specs.Renewed.{row_given, renewed, given_records, given_bytes, overfull, fresh};
 
 use crate::Full;
 use crate::changes::Changes;
-use crate::store::merge::merge;
 use crate::store::{MOST_ROWS, RowStore};
 use packed::view::RowView;
 
 // How much of the room something takes.
-#[derive(Clone, Copy)]
+#[derive(Clone, Copy, Default)]
 struct Size {
     records: usize,
     bytes: usize,
@@ -29,65 +26,65 @@ impl RowStore {
         ensures written { written self.new ≡ (if is_ok result then written self.old + fresh (rows_now self.old) (C.Changes.given changes.now) else written self.old) }
         ensures same { self.new.room ≡ self.old.room }
         ensures unchanged { OnErr result (self.new ≡ self.old) }
-        ensures sized { (vec_capacity self.new.bytes ≡ vec_capacity self.old.bytes) × MatchResult result (λ _. SameSize self.old.former self.new.current × SameSize self.old.current self.new.former) (λ _. SameSize self.old.current self.new.current × SameSize self.old.former self.new.former) }
+        ensures sized { (self.new.bytes.most ≡ self.old.bytes.most) × MatchResult result (λ _. SameSize self.old.former self.new.current × SameSize self.old.current self.new.former) (λ _. SameSize self.old.current self.new.current × SameSize self.old.former self.new.former) }
     {
-        if self.is_overfull(changes) {
-            return Err(Full);
-        }
-        merge(&mut self.bytes, &mut self.former, &self.current, changes);
+        self.check_room(changes)?;
+        self.refill(changes);
         std::mem::swap(&mut self.current, &mut self.former);
         Ok(())
     }
 
-    // Whether what is given is more than there is room for, beside what is held.
-    fn is_overfull<C: Changes>(&self, changes: &C) -> bool
-        ensures { result ≡ overfull self.now.room (rows_now self.now) (written self.now) (C.Changes.given changes.now) }
+    // Refuses what is given where it is more than there is room for, beside what is held.
+    fn check_room<C: Changes>(&self, changes: &C) -> Result<(), Full>
+        ensures { is_ok result ≡ not (overfull self.now.room (rows_now self.now) (written self.now) (C.Changes.given changes.now)) }
     {
-        let count = changes.count();
-        if count > self.room.rows.min(MOST_ROWS) {
-            return true;
+        let count = u16::try_from(changes.count()).map_err(|_| Full)?;
+        if usize::from(count) > self.room.rows.min(MOST_ROWS) {
+            return Err(Full);
         }
         let free = Size {
-            records: self.room.records - self.current.records.len(),
-            bytes: self.room.bytes - self.bytes.len(),
+            records: self.current.records.left(),
+            bytes: self.bytes.left(),
         };
-        !fit(changes, count as u16, free)
+        free.check_given(changes, count)
     }
 }
 
-// Whether what is given for the first rows takes no more than is free.
-fn fit<C: Changes>(changes: &C, count: u16, free: Size) -> bool
-    requires { count ≡ length (C.Changes.given changes.now) }
-    ensures { result ≡ (nat_le (total given_records (C.Changes.given changes.now)) free.records && nat_le (total given_bytes (C.Changes.given changes.now)) free.bytes) }
-{
-    let mut left = free;
-    for row in 0..count {
-        let size = size_of(changes.change(row));
-        if size.records > left.records || size.bytes > left.bytes {
-            return false;
+impl Size {
+    // Refuses what is given where it takes more. The caller has counted it, as a row number.
+    fn check_given<C: Changes>(self, changes: &C, count: u16) -> Result<(), Full>
+        requires { count ≡ length (C.Changes.given changes.now) }
+        ensures { is_ok result ≡ (nat_le (total given_records (C.Changes.given changes.now)) self.records && nat_le (total given_bytes (C.Changes.given changes.now)) self.bytes) }
+    {
+        let mut left = self;
+        // Rows are asked for by their numbers, so the loop goes over these.
+        for row in 0..count {
+            left = left.minus(Size::of(changes.change(row))).ok_or(Full)?;
         }
-        left = Size {
-            records: left.records - size.records,
-            bytes: left.bytes - size.bytes,
-        };
+        Ok(())
     }
-    true
-}
 
-// What a row takes that is given; nothing where none is.
-fn size_of(change: Option<RowView<'_>>) -> Size
-    requires { Whole change }
-    ensures records { result.records ≡ given_records (option_map (λ v. (shown v).1) change.entry) }
-    ensures bytes { result.bytes ≡ given_bytes (option_map (λ v. (shown v).1) change.entry) }
-{
-    match change {
-        Some(view) => Size {
-            records: usize::from(view.count),
-            bytes: view.head.id.len() + view.head.stable_id.len(),
-        },
-        None => Size {
-            records: 0,
-            bytes: 0,
-        },
+    // What a row takes that is given; nothing where none is.
+    fn of(change: Option<RowView<'_>>) -> Size
+        ensures records { result.records ≡ given_records (row_given change.entry) }
+        ensures bytes { result.bytes ≡ given_bytes (row_given change.entry) }
+    {
+        change
+            .map(|view| Size {
+                records: view.imports.len(),
+                bytes: view.head.id.len() + view.head.stable_id.len(),
+            })
+            .unwrap_or_default()
+    }
+
+    // What is left without another size, if it is that much.
+    fn minus(self, other: Size) -> Option<Size>
+        ensures test { is_some result ≡ (nat_le other.records self.records && nat_le other.bytes self.bytes) }
+        ensures left { IfSome result (λ left. (left.records + other.records ≡ self.records) × (left.bytes + other.bytes ≡ self.bytes)) }
+    {
+        Some(Size {
+            records: self.records.checked_sub(other.records)?,
+            bytes: self.bytes.checked_sub(other.bytes)?,
+        })
     }
 }

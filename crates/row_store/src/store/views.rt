@@ -1,5 +1,5 @@
 // What a store shows.
-ghost use Rattle.std.specs.Prelude.{◌≡◌, [], vec_capacity};
+ghost use Rattle.std.specs.Prelude.{◌≡◌, []};
 ghost use Rattle.row_store.specs.Sides.{SameSize};
 ghost use Rattle.row_store.specs.Views.{viewed};
 ghost use Rattle.row_store.specs.Stores.{rows_now, rows_before, written};
@@ -19,22 +19,14 @@ impl RowStore {
     pub fn current(&self) -> TableView<'_>
         ensures { viewed result ≡ rows_now self.now }
     {
-        TableView {
-            heads: self.current.heads.as_slice(),
-            records: self.current.records.as_slice(),
-            bytes: self.bytes.as_slice(),
-        }
+        self.current.view(self.bytes.as_slice())
     }
 
     // The rows as they were before the last rewrite.
     pub fn before(&self) -> TableView<'_>
         ensures { viewed result ≡ rows_before self.now }
     {
-        TableView {
-            heads: self.former.heads.as_slice(),
-            records: self.former.records.as_slice(),
-            bytes: self.bytes.as_slice(),
-        }
+        self.former.view(self.bytes.as_slice())
     }
 
     // Lets go of the rows before.
@@ -43,9 +35,8 @@ impl RowStore {
         ensures after { rows_now self.new ≡ rows_now self.old }
         ensures written { written self.new ≡ written self.old }
         ensures same { self.new.room ≡ self.old.room }
-        ensures sized { (vec_capacity self.new.bytes ≡ vec_capacity self.old.bytes) × SameSize self.old.current self.new.current × SameSize self.old.former self.new.former }
+        ensures sized { (self.new.bytes.most ≡ self.old.bytes.most) × SameSize self.old.current self.new.current × SameSize self.old.former self.new.former }
     {
-        self.former.heads.clear();
-        self.former.records.clear();
+        self.former.clear();
     }
 }

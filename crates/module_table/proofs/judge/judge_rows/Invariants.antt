@@ -1,4 +1,4 @@
-use Rattle.std.proofs.Common.{◌≡◌, List, length, vec_items, vec_capacity}
+use Rattle.std.proofs.Common.{List}
 use Rattle.packed_layout.specs.Layout.{Entry, read_all}
 use Rattle.packed_rows.specs.Lists.{entries_of}
 use Rattle.packed_rows.specs.Entries.{coming}
@@ -8,7 +8,4 @@ use Rattle.module_table.proofs.judge.judge_rows.Given as goal
 
 -- some entries are judged, and the list has the others to come
 abbrev pub invariant-loop-offset : goal.invariant-loop-offset
-invariant-loop-offset g l = ((done : List Entry) × Judging (g.G.Graph.rows l.table) l.bytes (entries_of (read_all l.bytes)) done (coming l.list) (vec_items l.scratch.places) (listed l.scratch.ids) (listed l.scratch.stable_ids) l.twice) × (vec_capacity l.scratch.places ≡ vec_capacity l.initial.scratch.places) × (l.scratch.marks ≡ l.initial.scratch.marks)
-
-abbrev pub decreases-loop-offset : goal.decreases-loop-offset
-decreases-loop-offset g l = length (coming l.list)
+invariant-loop-offset g l = (done : List Entry) × Judging (g.G.Graph.rows l.table) l.bytes (entries_of (read_all l.bytes)) done (coming l.offset-iterator) l.draft.places (listed l.draft.orders.ids) (listed l.draft.orders.stable_ids) l.twice

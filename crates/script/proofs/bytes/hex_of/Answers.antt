@@ -1,15 +1,12 @@
-use Rattle.std.proofs.Common.{vec_items, rules}
-use Rattle.script.proofs.Hexes.{hexes-start, hexes-turn, hexes-end, hexes-odd}
+use Rattle.std.proofs.Common.{rules, []}
+use Rattle.script.proofs.Hexes.{odd_is, pairs-start, pairs-turn}
 use Rattle.script.proofs.bytes.hex_of.Goals as goal
 
-pub loop-digits-init : goal.loop-digits-init
-loop-digits-init c = hexes-start _ c.args.word.now c.new-bytes.ensures.items
+pub returns-then-not-is_empty : goal.returns-then-not-is_empty
+returns-then-not-is_empty c = let none = odd_is c.args.word.now _ c.as_chunks.ensures.back_len c.if-not-is_empty.ensures in search (rules, none)
 
-pub loop-digits-preserved : goal.loop-digits-preserved
-loop-digits-preserved c = hexes-turn (vec_items c.loop-digits.bytes) _ c.loop-digits.digits.now c.in-Some.b _ (search rules) c.in-Some.ensures c.in_ok-push.ensures.items c.loop-digits.invariant
+pub loop-high-init : goal.loop-high-init
+loop-high-init c = pairs-start c.args.word.now _ c.as_chunks.result.0.now c.new-bytes.ensures.items c.as_chunks.ensures.front (search rules)
 
-pub returns-then-is_empty : goal.returns-then-is_empty
-returns-then-is_empty c = hexes-end (vec_items c.loop-digits.bytes) c.loop-digits.digits.now _ c.if-is_empty.ensures c.loop-digits.invariant
-
-pub returns-else-is_empty : goal.returns-else-is_empty
-returns-else-is_empty c = hexes-odd (vec_items c.loop-digits.bytes) c.loop-digits.digits.now _ c.if-is_empty.ensures (search rules) c.loop-digits.invariant
+pub loop-high-preserved : goal.loop-high-preserved
+loop-high-preserved c = pairs-turn _ c.as_chunks.result.0.now c.loop-high.high-index [] _ c.loop-high.invariant _ _ c.loop-high-test.true (search rules) c.in_ok-push.ensures.items

@@ -1,10 +1,7 @@
-use Rattle.std.proofs.Common.{◌∙◌}
+use Rattle.std.proofs.Common.{rules}
 use Rattle.packed_rows.specs.Opened.{rows_in}
-use Rattle.packed_rows.proofs.Records.{count-is, count_none}
+use Rattle.packed_rows.proofs.Records.{records-viewed}
 use Rattle.packed_rows.proofs.graph.PackedRowsGraph.record_count.Goals as goal
 
-pub returns-in-Some : goal.returns-in-Some
-returns-in-Some c = c.from-in-Some.ensures ∙ count-is (rows_in c.args.self.now) _ c.args.row c.from.ensures c.in-Some.view c.in-Some.ensures.shown c.in-Some.ensures.whole
-
-pub returns-in-None : goal.returns-in-None
-returns-in-None c = count_none (rows_in c.args.self.now) _ c.args.row c.from.ensures c.in-None.ensures.shown
+pub returns : goal.returns
+returns c = rw (records-viewed (rows_in c.args.self.now) _ c.args.row c.into.ensures c.row.result c.row.ensures) (search rules)
