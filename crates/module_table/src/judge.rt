@@ -57,7 +57,7 @@ pub struct Draft {
 }
 
 impl Draft {
-    // One row of a list: its fault, or whether the list has it twice.
+    // One row of a list: its fault, or whether the list has it twice, which is for `judge_rows` to gather.
     fn judge_row<G: Graph>(
         &mut self,
         table: &G,
@@ -96,7 +96,7 @@ impl Draft {
 
 // Gives each row of a list its place and its names: the first fault, or whether the list has a
 // row twice. The list is well formed, and the draft has just the table.
-// The answer is a bool, since it goes into one `||` with that of `are_asked`.
+// A row that stands twice is told by a bool and is no fault: a later row's fault goes before it, so it cannot refuse at once.
 pub(crate) fn judge_rows<G: Graph>(
     table: &G,
     draft: &mut Draft,

@@ -60,7 +60,7 @@ impl Order {
         ensures sized { reserved self.new ≡ reserved self.old }
     {
         self.rows.clear();
-        // Pushed one by one: `extend_from_slice` does not promise that the capacity stays as it is.
+        // Pushed one by one: `extend_from_slice` may allocate, and does not say that the capacity stays.
         for row in other.rows() {
             self.rows.push_reserved(*row);
         }

@@ -24,6 +24,7 @@ pub(crate) struct Pen<'b> {
     pub(crate) at: usize,
 }
 
+// That there is room is a premise of each method: who measured the row knows it, and a test here would be a fault that cannot come.
 impl<'b> Pen<'b> {
     // A pen at the front of a buffer.
     pub(crate) fn new(buffer: &'b mut [u8]) -> Self

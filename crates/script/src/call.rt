@@ -18,7 +18,7 @@ pub struct RowLine {
     pub records: Vec<ImportRecord>,
 }
 
-// The room that a table is to have, in the numbers of a script: what they are as sizes is for the table to say.
+// The room that a table is to have. Not `project`'s: a script's numbers have 64 bits, and a type over the width of both is no plainer.
 #[derive(Clone, Copy)]
 pub struct Room {
     pub rows: u64,

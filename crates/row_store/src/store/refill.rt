@@ -21,7 +21,7 @@ impl RowStore {
         ensures { told self.new ≡ told_anew (told self.old) (renewed (rows_now self.old) 0 (C.Changes.given changes.now)) (fresh (rows_now self.old) (C.Changes.given changes.now)) }
     {
         self.former.clear();
-        // Rows are asked for by their numbers, so the loop goes over these; the cast loses nothing, as there are at most 4,096.
+        // Rows are asked for by their numbers, so the loop goes over these. There are at most 4,096: `try_from` would bring in a fault that cannot come.
         let count = changes.count() as u16;
         for row in 0..count {
             self.put(row, changes.change(row));

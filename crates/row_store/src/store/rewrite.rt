@@ -57,7 +57,7 @@ impl Size {
         ensures { is_ok result ≡ (nat_le (total given_records (C.Changes.given changes.now)) self.records && nat_le (total given_bytes (C.Changes.given changes.now)) self.bytes) }
     {
         let mut left = self;
-        // Rows are asked for by their numbers, so the loop goes over these.
+        // Rows are asked for by their numbers; a `try_fold` over these would only wrap the same two calls in a closure.
         for row in 0..count {
             left = left.minus(Size::of(changes.change(row))).ok_or(Full)?;
         }
