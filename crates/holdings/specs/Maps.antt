@@ -1,5 +1,5 @@
 -- Maps from pairs of a tablet and a row to stamps.
-use Rattle.std.specs.Prelude.{ℕ, zero, suc, ◌+◌, ◌*◌, Bool, cond, ◌&&◌, is_some, None, Option, ◌==◌, nat_lt}
+use Rattle.std.specs.Prelude.{ℕ, zero, suc, ◌+◌, ◌*◌, Bool, cond, ◌&&◌, is_some, Some, None, Option, if◌then◌else◌, ◌==◌, nat_lt}
 
 -- the stamp of each pair of a tablet and a row that is held
 abbrev pub Map : Type 0
@@ -37,3 +37,7 @@ size m = sum_to (λ t. sum_to (λ r. one (m t r)) 4096) 16
 -- whether the tablet is at most 15 and the row at most 4,095
 abbrev pub in_range : ℕ → ℕ → Bool
 in_range tablet row = nat_lt tablet 16 && nat_lt row 4096
+
+-- a tablet and a row, where both are in range
+abbrev pub ranged : ℕ → ℕ → Option (ℕ × ℕ)
+ranged tablet row = if in_range tablet row then Some (tablet, row) else None

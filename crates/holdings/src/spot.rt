@@ -1,6 +1,7 @@
 // A pair of a tablet and a row that are in range.
 ghost use Rattle.std.specs.Prelude.{◌≡◌, ◌<◌, is_some, IfSome};
-ghost use Rattle.holdings.specs.Maps.{in_range};
+ghost use Rattle.std.specs.Option.{option_map};
+ghost use Rattle.holdings.specs.Maps.{in_range, ranged};
 
 use super::store::{ROWS, TABLETS};
 
@@ -16,6 +17,7 @@ pub struct Spot {
 impl Spot {
     // The spot of a tablet and a row, if both are in range.
     pub fn of(tablet: u8, row: u16) -> Option<Spot>
+        ensures value { option_map (λ s. (s.tablet, s.row)) result ≡ ranged tablet row }
         ensures in_range { is_some result ≡ in_range tablet row }
         ensures pair { IfSome result (λ s. (s.tablet ≡ tablet) × (s.row ≡ row)) }
     {
