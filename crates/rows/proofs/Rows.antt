@@ -1,11 +1,17 @@
 -- Rows: the normal ones are in the table, and what a test of equality tells.
-use Rattle.std.proofs.Common.{◌≡◌, ℕ, cond, not, T, eqb, List, [], ◌∷◌, refl, subst, eqb→eq}
+use Rattle.std.proofs.Common.{◌≡◌, ℕ, zero, suc, ◌<◌, cond, not, T, eqb, List, [], ◌∷◌, length, refl, subst, arith, eqb→eq}
 use lib.Dec.{eqb_refl}
 use Rattle.rows.specs.declared.Sort.{Sort}
 use Rattle.rows.specs.declared.Sort.TheVariants.{Normal, External}
 use Rattle.std.specs.Str.{bytes_eq}
-use Rattle.rows.specs.Rows.{is_normal_sort}
+use Rattle.rows.specs.Rows.{Row, at, is_normal_sort, is_normal}
 use Rattle.rows.proofs.Tests.{both, from-both}
+
+-- a normal row is a row
+pub normal-row : (rows : List Row) (r : ℕ) → T (is_normal (at rows r)) → r < length rows
+normal-row [] r t = absurd t
+normal-row (x ∷ xs) zero t = omega arith
+normal-row (x ∷ xs) (suc r) t = let h = normal-row xs r t in omega arith
 
 pub same_lists : (xs ys : List ℕ) → T (bytes_eq xs ys) → xs ≡ ys
 same_lists [] [] t = refl

@@ -35,6 +35,11 @@ pub indeed : (a : Bool) → T (not (not a)) → T a
 indeed true t = tt
 indeed false t = t
 
+-- a test holds or does not
+pub or-not : (a : Bool) → T a ⊎ T (not a)
+or-not true = inl tt
+or-not false = inr tt
+
 pub is_true : (a : Bool) → T a → a ≡ true
 is_true true t = refl
 is_true false t = absurd t
