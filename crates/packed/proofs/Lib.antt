@@ -1,3 +1,4 @@
+pub mod Bytes
 pub mod Imports
 pub mod RowsRead
 pub mod Offsets

@@ -53,6 +53,11 @@ record-taken {A} K s r e =
     passed (read payload) BrokenLayout _ r e4 λ a is e5.
     subst (λ (q : A × ℕ × List ℕ). Taken s q.1 q.2) (ok-inj e5) (record { some = omega arith; follows = joins 6 x.0.0 s x.1 p.1 (header-follows s x head) (text-follows x.0.0 x.1 p body) })
 
+-- what is read at an offset is the record that the bytes after it begin with
+pub at_here : (s : List ℕ) (offset : ℕ) (r : Result ((ℕ × Row) × ℕ × List ℕ) RecordFault) → offset < length s → r ≡ first_record rows (take (length s - offset) (drop offset s)) → placed offset r ≡ read_at s offset
+at_here s offset r h e =
+    ap (placed offset) (e ∙ ap (first_record rows) (take_rest s offset)) ∙ sym (cond-false (leb (length s) offset) (Ok None) (placed offset (first_record rows (drop offset s))) (lt-leb (length s) offset h))
+
 ok-err : {A B : Type 0} (x : A) (y : B) → ◌≡◌ {A = Result A B} (Ok x) (Err y) → ⊥
 ok-err x y e = let z : ◌≡◌ {A = ℕ} 0 1 = cc in omega arith
 

@@ -1,10 +1,10 @@
 -- Import records by their places: each takes three bytes.
-use Rattle.std.proofs.Common.{◌≡◌, ℕ, zero, suc, ◌+◌, ◌*◌, ◌<◌, ◌≤◌, List, [], ◌∷◌, length, drop, is_some, Some, None, Option, sym, refl, ap, ◌∙◌, subst, true, arith, length-drop}
+use Rattle.std.proofs.Common.{◌≡◌, ℕ, zero, suc, ◌+◌, ◌*◌, ◌/◌, ◌<◌, ◌≤◌, List, [], ◌∷◌, length, drop, is_some, Some, None, Option, sym, refl, ap, ◌∙◌, subst, ⊎_elim, true, arith, length-drop}
 use Rattle.std.specs.Option.{option_map}
 use Rattle.std.specs.List.{slice_get}
 use Rattle.std.proofs.lemmas.List.{drop-drop}
 use Rattle.std.proofs.lemmas.Option.{slice_get_past}
-use Rattle.std.proofs.lemmas.Bool.{false≢true}
+use Rattle.std.proofs.lemmas.Bool.{cases_lt, false≢true}
 use Rattle.rows.specs.declared.ImportRecord.{ImportRecord}
 use Rattle.packed_layout.specs.Codec.{Codec, bind, alone, via, number, ◌then◌, find, read_times}
 use Rattle.packed_layout.specs.Layout.{kind_code, import_kinds, import_kind, target_code, target_of, target, import_record}
@@ -48,6 +48,14 @@ times-bytes (suc n) s p e =
 abbrev pub import_at : List ℕ → ℕ → Option ImportRecord
 import_at s j = option_map (λ (p : ImportRecord × List ℕ). p.0) (import_record.read (drop (3 * j) s))
 
+none-short : (s : List ℕ) (o : Option (ImportRecord × List ℕ)) → import_record.read s ≡ o → length s < 3 → o ≡ None
+none-short s None e h = refl
+none-short s (Some p) e h = let f = import-follows s p e in absurd (omega (arith, f.within))
+
+-- none is read past the last whole three bytes
+pub import-past : (s : List ℕ) (j : ℕ) → length s / 3 ≤ j → None ≡ import_at s j
+import-past s j h = ap (option_map (λ (p : ImportRecord × List ℕ). p.0)) (sym (none-short (drop (3 * j) s) (import_record.read (drop (3 * j) s)) refl (simp length-drop (omega arith))))
+
 import-nth : (n : ℕ) (s : List ℕ) (p : List ImportRecord × List ℕ) (j : ℕ) → read_times import_record n s ≡ Some p → j < n → slice_get p.0 j ≡ import_at s j
 import-nth zero s p j e h = absurd (omega arith)
 import-nth (suc n) s p zero e h =
@@ -83,3 +91,10 @@ module _ (n : ℕ) (s : List ℕ) (w : Whole n s) where
 
   pub nth-past : (j : ℕ) → n ≤ j → None ≡ slice_get (records_in n s) j
   nth-past j h = sym (slice_get_past (records_in n s) j (omega (arith, count-is n s w)))
+
+  -- what is read at any place is the record of that number, or none
+  pub import-is : (j : ℕ) → import_at s j ≡ slice_get (records_in n s) j
+  import-is j =
+      ⊎_elim (λ (h : j < n). nth-is j h)
+      (λ (h : n ≤ j). sym (import-past s j (omega (arith, bytes-are))) ∙ nth-past j h)
+      (cases_lt j n)

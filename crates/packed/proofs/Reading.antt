@@ -1,12 +1,13 @@
 -- What is read of a list from an offset on.
-use Rattle.std.proofs.Common.{◌≡◌, ℕ, zero, suc, ◌+◌, ◌-◌, ◌<◌, ◌≤◌, List, [], ◌∷◌, ◌++◌, length, drop, Some, None, Ok, Err, Result, sym, refl, ap, ◌∙◌, arith, length-drop}
+use Rattle.std.proofs.Common.{◌≡◌, ℕ, zero, suc, ◌+◌, ◌-◌, ◌<◌, ◌≤◌, List, [], ◌∷◌, ◌++◌, length, drop, Some, None, Ok, Err, Option, Result, sym, refl, ap, ◌∙◌, arith, length-drop}
 use Rattle.std.proofs.lemmas.List.{drop_all, length_push}
 use Rattle.rows.specs.Rows.{Row}
 use Rattle.packed_layout.specs.declared.faults.RecordFault.{RecordFault}
 use Rattle.packed_layout.specs.declared.faults.FaultAt.{FaultAt}
 use Rattle.packed_layout.specs.Records.{Read, entries, broken, broken_at, also, first_record, read_records}
 use Rattle.packed_layout.specs.Layout.{Entry, entry, rows, read_all}
-use Rattle.packed.specs.Views.{read_at}
+use Rattle.packed.specs.declared.view.RowView.{RowView}
+use Rattle.packed.specs.Views.{read_at, shown_at}
 use Rattle.packed.proofs.Offsets.{here, fault, at-end}
 
 -- at most so many records, from an offset on
@@ -80,6 +81,17 @@ left-turn es e s offset next p l =
 pub left-done : (es : List Entry) (s : List ℕ) (offset : ℕ) → Ok None ≡ read_at s offset → Left es s offset → read_all s ≡ entries es
 left-done es s offset p l = sym l.whole ∙ ap (also_all es) (from-none (length s - length es) s offset p) ∙ also_all-end es
 
+pub left-broken : (es : List Entry) (s : List ℕ) (offset : ℕ) (a : FaultAt) → Err a ≡ read_at s offset → Left es s offset → read_all s ≡ broken a
+left-broken es s offset a p l =
+    let x = fault s offset a p in
+    let n = length s - length es - 1 in
+    let fuel : length s - length es ≡ suc n = omega (arith, x.inside, l.behind) in
+    sym l.whole ∙ ap (also_all es) (ap (λ (k : ℕ). from k s offset) fuel ∙ from-err n s offset a p) ∙ also_all-broken es a
+
 -- the next record begins further on, within the bytes
 pub further : (e : Entry) (s : List ℕ) (offset next : ℕ) → Ok (Some (e, next)) ≡ read_at s offset → (offset < length s) × (offset < next)
 further e s offset next p = let x = here s offset e next p in (x.inside, omega (arith, x.next-is, x.some))
+
+-- a view that was read at an offset, by what came of the call
+pub shown-at : (offset : ℕ) (o v : Option (RowView × ℕ)) (r : Result (Option (Entry × ℕ)) FaultAt) → o ≡ v → shown_at offset (Ok o) ≡ r → shown_at offset (Ok v) ≡ r
+shown-at offset o v r e h = ap (λ (z : Option (RowView × ℕ)). shown_at offset (Ok z)) (sym e) ∙ h

@@ -1,5 +1,6 @@
 -- The row in a payload, by what a glance at it shows.
 use Rattle.std.proofs.Common.{◌≡◌, ℕ, Bool, true, false, ◌||◌, List, [], ◌∷◌, length, is_some, Some, None, Option, sym, refl, ap, ◌∙◌}
+use Rattle.std.proofs.lemmas.Bool.{false≢true}
 use Rattle.rows.specs.declared.ImportRecord.{ImportRecord}
 use Rattle.rows.specs.Rows.{Row, is_normal_sort}
 use Rattle.packed.specs.declared.view.Outline.{Outline}
@@ -124,6 +125,14 @@ module _ (s : List ℕ) (o : Outline) (e : Some (outlined o) ≡ outline s) wher
 
     pub row-whole : Whole o.count o.imports.now
     row-whole = whole_by (read_times import_record o.count o.imports.now) (sym from ∙ q)
+
+  glanced_by : (r : Option (List ImportRecord)) → r ≡ whole o.count o.imports.now → true ≡ Allowed → true ≡ is_some r → Some (glanced o) ≡ read_whole row s
+  glanced_by None q ok w = absurd (false≢true (sym w))
+  glanced_by (Some es) q ok w = let read = row_read ok es q in ap Some (row-shown (row_of fields es) (sym read)) ∙ read
+
+  -- an allowed row whose last bytes pass as import records is the row that its outline shows
+  pub row-glanced : true ≡ Allowed → true ≡ is_some (whole o.count o.imports.now) → Some (glanced o) ≡ read_whole row s
+  row-glanced ok w = glanced_by (whole o.count o.imports.now) refl ok w
 
 -- no row where there is no outline
 none-at : (u : List ℕ) (h : Head) (o : Option (ℕ × List ℕ)) → ◌≡◌ {A = Option (Head × (ℕ × List ℕ))} None (bind o (λ n. Some (h, (n.0, n.1)))) → None ≡ after_count h o
