@@ -38,6 +38,22 @@ coming-some s o e next p =
     let fuel : length s - o ≡ suc n = omega (arith, on.0) in
     ap (λ k. outcomes_in k s o) fuel ∙ ap (step n s) (sym p) ∙ ap {B = List (Result Entry FaultAt)} (λ xs. Ok e ∷ xs) (enough n (length s - next) s next (omega (arith, on.0, on.1)) (omega arith))
 
+none-by : (n : ℕ) (s : List ℕ) (o : ℕ) → Ok None ≡ read_at s o → outcomes_in n s o ≡ []
+none-by zero s o p = refl
+none-by (suc n) s o p = ap (step n s) (sym p)
+
+-- nothing comes where nothing is read
+pub coming-none : (s : List ℕ) (o : ℕ) → Ok None ≡ read_at s o → readable s o ≡ []
+coming-none s o p = ap before_fault (none-by (length s - o) s o p)
+
+err-by : (n : ℕ) (s : List ℕ) (o : ℕ) (a : FaultAt) → Err a ≡ read_at s o → before_fault (outcomes_in n s o) ≡ []
+err-by zero s o a p = refl
+err-by (suc n) s o a p = ap (λ (r : Result (Option (Entry × ℕ)) FaultAt). before_fault (step n s r)) (sym p)
+
+-- nor where a record is refused
+pub coming-err : (s : List ℕ) (o : ℕ) (a : FaultAt) → Err a ≡ read_at s o → readable s o ≡ []
+coming-err s o a p = err-by (length s - o) s o a p
+
 -- there are at most as many as steps
 few-in : (n : ℕ) (s : List ℕ) (o : ℕ) → length (outcomes_in n s o) ≤ n
 few-in zero s o = omega arith

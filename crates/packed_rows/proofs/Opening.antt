@@ -1,5 +1,5 @@
 -- Opening a list, and the rows of an opened one.
-use Rattle.std.proofs.Common.{◌≡◌, ℕ, zero, suc, ◌-◌, ◌<◌, ◌≤◌, eqb, leb, List, [], ◌∷◌, ◌++◌, map, length, drop, Some, None, Ok, Err, Option, Result, sym, refl, ap, ◌∙◌, subst, arith}
+use Rattle.std.proofs.Common.{◌≡◌, ℕ, zero, suc, ◌-◌, ◌<◌, ◌≤◌, eqb, leb, List, [], ◌∷◌, ◌++◌, map, length, drop, Some, None, Ok, Err, Option, Result, IfSome, sym, refl, ap, ◌∙◌, subst, arith}
 use Rattle.std.specs.Option.{option_map}
 use Rattle.std.specs.List.{slice_get}
 use Rattle.std.proofs.lemmas.Option.{slice_get-map}
@@ -8,7 +8,9 @@ use Rattle.std.proofs.lemmas.Bool.Decides.{nat_tests}
 use Rattle.rows.specs.Rows.{Row as TheRow}
 use Rattle.packed_layout.specs.declared.faults.FaultAt.{FaultAt}
 use Rattle.packed_layout.specs.declared.faults.RecordFault.TheVariants.{EndsInside, UnknownKind, BrokenLayout}
-use Rattle.packed_rows.specs.declared.OpenFault.TheVariants.{Short}
+use Rattle.packed_layout.specs.declared.faults.RowFault.{RowFault}
+use Rattle.packed_layout.specs.declared.faults.RowFault.TheVariants.{Record}
+use Rattle.packed_rows.specs.declared.OpenFault.TheVariants.{Row, Short}
 use Rattle.packed.specs.declared.view.Outline.{Outline}
 use Rattle.packed_layout.specs.Codec.{when, text, read_whole}
 use Rattle.packed_layout.specs.Records.{Read, entries, broken, also, header, first_record}
@@ -49,6 +51,11 @@ short-by room wanted places e (entries fs) (entries es) full h w =
 
 pub noted-short : (room wanted : ℕ) (places s : List ℕ) (e : Entry) (todo rest : List (Result Entry FaultAt)) → room ≤ length places → todo ≡ Ok e ∷ rest → noted places (gathered todo) ≡ noted [] (read_all s) → Ok wanted ≡ row_count (read_all s) → opened room (read_all s) ≡ Err (Short wanted)
 noted-short room wanted places s e todo rest full t h w = short-by room wanted places e (gathered rest) (read_all s) full (rw t at h) w
+
+-- a list whose count is refused is not opened, for the same fault
+pub opened-broken : (room : ℕ) (f : RowFault) (all : Read Entry) → Err f ≡ row_count all → opened room all ≡ Err (Row f)
+opened-broken room f (broken a) e = let same : f ≡ Record a = cc in ap (λ (z : RowFault). Err (Row z)) (sym same)
+opened-broken room f (entries es) e = cc
 
 -- Each row of a list is what is read at its offset.
 
@@ -95,6 +102,21 @@ glanced-by s offset value (payload, at, q) (Some o) g = ap Some (row-shown paylo
 whole-by : (s : List ℕ) (offset : ℕ) (value : ℕ × TheRow) → Payload s offset value → (o : Outline) → Some (outlined o) ≡ outline_at s offset → Whole o.count o.imports.now
 whole-by s offset value (payload, at, q) o g = row-whole payload o (g ∙ at) value q
 
+-- what a glance at a record shows, if anything, is of import records that are whole
+abbrev pub Sound : Option Outline → Type 0
+Sound r = IfSome r (λ o. Whole o.count o.imports.now)
+
+-- what a glance at an entry's record shows
+pub glance_at : (s : List ℕ) (o : ℕ) (value : ℕ × TheRow) (size : ℕ) (rest : List ℕ) → first_record rows (drop o s) ≡ Ok (value, size, rest) → (r : Option Outline) → option_map outlined r ≡ outline_at s o → (option_map glanced r ≡ Some value) × Sound r
+glance_at s o value size rest e r g = (glanced-by s o value at r g, sound r g)
+  where
+    at : Payload s o value
+    at = payload_at s o value size rest e
+
+    sound : (r : Option Outline) → option_map outlined r ≡ outline_at s o → Sound r
+    sound None g = tt
+    sound (Some v) g = whole-by s o value at v g
+
 module _ (s : List ℕ) (e : Entry) (t : Stands s e) where
   payload-stands : Payload s e.offset (numbered e)
   payload-stands =
@@ -130,3 +152,29 @@ module _ (s places : List ℕ) (placed : offsets s ≡ places) (k place : ℕ) (
 
   pub row-sound : (r : Outline) → Some (outlined r) ≡ outline_at s place → Whole r.count r.imports.now
   row-sound r g = sound-by _ listed r g
+
+-- The rows of an opened list, by what stands at a place.
+module _ (s places : List ℕ) (placed : offsets s ≡ places) (k : ℕ) where
+  -- the offset of the entry that stands there
+  standing : option_map (λ (e : Entry). e.offset) (slice_get (entries_of (read_all s)) k) ≡ slice_get places k
+  standing = sym (slice_get-map (λ (e : Entry). e.offset) (entries_of (read_all s)) k) ∙ ap (λ (z : List ℕ). slice_get z k) placed
+
+  past-by : (e : Option Entry) → option_map (λ (e : Entry). e.offset) e ≡ None → None ≡ option_map numbered e
+  past-by None h = refl
+  past-by (Some e) h = cc
+
+  -- there is no row past the last place
+  pub row-past : slice_get places k ≡ None → None ≡ option_map numbered (slice_get (entries_of (read_all s)) k)
+  row-past h = past-by (slice_get (entries_of (read_all s)) k) (standing ∙ h)
+
+  -- at a place there is the row that a glance shows
+  pub row_at : (o : ℕ) → slice_get places k ≡ Some o → (r : Option Outline) → option_map outlined r ≡ outline_at s o → (option_map glanced r ≡ option_map numbered (slice_get (entries_of (read_all s)) k)) × Sound r
+  row_at o h r g = (row-seen s places placed k o (sym h) r g, sound r g)
+    where
+      sound : (r : Option Outline) → option_map outlined r ≡ outline_at s o → Sound r
+      sound None g = tt
+      sound (Some v) g = row-sound s places placed k o (sym h) v g
+
+  -- there are as many rows as places
+  pub length_at : (n : ℕ) → n ≡ length places → n ≡ length (entries_of (read_all s))
+  length_at n h = h ∙ ap length (sym placed) ∙ length-map (entries_of (read_all s)) (λ (e : Entry). e.offset)
