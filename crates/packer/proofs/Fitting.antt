@@ -1,13 +1,13 @@
 -- The test of a row passes exactly what fits the layout.
-use Rattle.std.proofs.Common.{◌≡◌, ℕ, true, List, [], ◌∷◌, Some, None, Option, refl, arith}
+use Rattle.std.proofs.Common.{◌≡◌, ℕ, true, leb, List, [], ◌∷◌, length, Some, None, Option, refl, arith}
 use Rattle.std.specs.List.{AllByRecursion}
-use Rattle.std.proofs.lemmas.Bool.{ltb-true, lt-ltb, and_parts, and_from}
+use Rattle.std.proofs.lemmas.Bool.{ltb-true, lt-ltb, le-leb, and_parts, and_from}
 use Rattle.std.proofs.lemmas.Bool.Decides.{nat_tests}
 use Rattle.rows.specs.declared.ImportRecord.{ImportRecord}
 use Rattle.rows.specs.Rows.{Row}
-use Rattle.packed_layout.specs.Exact.{Resolved, FitsPair}
+use Rattle.packed_layout.specs.Exact.{Name, Resolved, FitsPair}
 use Rattle.packed_layout.proofs.Packing.{external-there, external-back}
-use Rattle.packer.specs.Packs.{resolved?, all_resolved?, fits?, Typed, FitIsTested}
+use Rattle.packer.specs.Packs.{name?, resolved?, all_resolved?, fits?, Typed, FitIsTested}
 
 resolved-there : (t : Option ℕ) → resolved? t ≡ true → Resolved t
 resolved-there None e = tt
@@ -24,6 +24,11 @@ each-there (x ∷ xs) e = let b = and_parts (resolved? x.target) (all_resolved? 
 each_back : (es : List ImportRecord) → AllByRecursion (λ (e : ImportRecord). Resolved e.target) es → all_resolved? es ≡ true
 each_back [] h = refl
 each_back (x ∷ xs) h = and_from (resolved? x.target) (all_resolved? xs) (resolved-back x.target h.0) (each_back xs h.1)
+
+-- a whole row
+
+name_back : (s : List ℕ) → Name s → name? s ≡ true
+name_back s n = and_from (leb 1 (length s)) (leb (length s) 1024) (le-leb 1 (length s) n.some) (le-leb (length s) 1024 n.short)
 
 row-there : (p : ℕ × Row) → Typed p → fits? p ≡ true → FitsPair p
 row-there p s e =

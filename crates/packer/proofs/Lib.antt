@@ -1,3 +1,6 @@
 mod Putting
+mod Over
+mod Digits
 mod Fitting
+mod Lengths
 mod Packing

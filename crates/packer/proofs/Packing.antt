@@ -1,13 +1,14 @@
 -- What packing a row answers, and what its record is read as.
-use Rattle.std.proofs.Common.{◌≡◌, ℕ, ◌+◌, ◌≤◌, true, List, [], ◌∷◌, ◌++◌, length, take, drop, Ok, Result, sym, refl, ap, ◌∙◌, ap₂, subst, arith, zero-add}
+use Rattle.std.proofs.Common.{◌≡◌, ℕ, ◌+◌, ◌<◌, ◌≤◌, true, false, List, [], ◌∷◌, ◌++◌, length, take, drop, Ok, Err, Result, sym, refl, ap, ◌∙◌, ap₂, subst, arith, zero-add}
 use Rattle.std.proofs.lemmas.List.{append-nil, take_at, take-append-drop}
-use Rattle.std.proofs.lemmas.Bool.{le-leb}
+use Rattle.std.proofs.lemmas.Bool.{le-leb, lt-leb}
 use Rattle.rows.specs.Rows.{Row}
 use Rattle.packed_layout.specs.Records.{header, entries}
 use Rattle.packed_layout.specs.Layout.{entry, head, head_of, import_records, row, packed, read_all}
 use Rattle.packed_layout.specs.Exact.{FitsPair}
 use Rattle.packed_layout.proofs.Exact.{lists-are-exact}
 use Rattle.packer.specs.declared.PackFault.{PackFault}
+use Rattle.packer.specs.declared.PackFault.TheVariants.{Unfit, Short}
 use Rattle.packer.specs.declared.pen.Pen.{Pen}
 use Rattle.packer.specs.Packs.{fits?, filled, packs}
 use Rattle.packer.specs.Put.{AtFront, Put}
@@ -35,6 +36,14 @@ module _ {bytes old now : List ℕ} {start after : Pen} (front : AtFront old sta
 
   taken_is : take after.at now ≡ bytes
   taken_is = ap₂ take ends wrote ∙ take_at bytes (drop (length bytes) old) (length bytes) refl
+
+-- a row that does not fit the layout, and a buffer that has no room for a record
+module _ (p : ℕ × Row) (before : List ℕ) where
+  pub packs-unfit : fits? p ≡ false → ◌≡◌ {A = Result ℕ PackFault × List ℕ} (Err Unfit, before) (packs p before)
+  packs-unfit e = rw e
+
+  pub packs-short : (n : ℕ) → fits? p ≡ true → n ≡ length (packed p) → length before < length (packed p) → ◌≡◌ {A = Result ℕ PackFault × List ℕ} (Err (Short n), before) (packs p before)
+  packs-short n e l h = rw (e, lt-leb (length (packed p)) (length before) h) (ap (λ (n : ℕ). (Err (Short n), before)) l)
 
 module _ (p : ℕ × Row) {old now : List ℕ} {start after : Pen} (front : AtFront old start) (put : Put (packed p) start after) (left : after.buffer.now ≡ now) where
   pub packs-ok : fits? p ≡ true → ◌≡◌ {A = Result ℕ PackFault × List ℕ} (Ok after.at, now) (packs p old)
