@@ -44,6 +44,12 @@ one_more : (xs : List ℕ) (b : ℕ) (o : Option (List ℕ)) → prefixed (xs ++
 one_more xs b None = refl
 one_more xs b (Some ys) = ap Some (append_assoc xs (b ∷ []) ys)
 
+-- two digits more, of a word itself
+pub two_digits : (xs s : List ℕ) (b : ℕ) (all : Option (List ℕ)) → 2 ≤ length s → Some b ≡ hex_byte (get_or s 0 0) (get_or s 1 0) → prefixed xs (hex_of s) ≡ all → prefixed (xs ++ b ∷ []) (hex_of (drop 2 s)) ≡ all
+two_digits xs [] b all h p inv = absurd (omega arith)
+two_digits xs (x ∷ []) b all h p inv = absurd (omega arith)
+two_digits xs (x ∷ y ∷ t) b all h p inv = one_more xs b (hex_of t) ∙ ap (λ (o : Option ℕ). prefixed xs (bind o (λ z. bind (hex_of t) (λ more. Some (z ∷ more))))) p ∙ inv
+
 pub pairs-start : (s xs : List ℕ) (ps : List (List ℕ)) → xs ≡ [] → ps ≡ first_chunks 2 (length s / 2) s → length s % 2 ≡ 0 → prefixed xs (all_pairs ps) ≡ hex_of s
 pairs-start s xs ps e f even = ap (λ (z : List ℕ). prefixed z (all_pairs ps)) e ∙ prefixed-nil (all_pairs ps) ∙ ap all_pairs f ∙ even_is (length s / 2) s (omega arith)
 
