@@ -1,4 +1,5 @@
 pub mod ByteOrder
+pub mod Bytewise
 pub mod Splitting
 pub mod Inserting
 pub mod Numbering

@@ -55,6 +55,9 @@ pub none_is : (o : Option ℕ) → is_some o ≡ false → o ≡ None
 none_is (Some k) e = cc
 none_is None e = refl
 
+pub apart_none : Apart []
+apart_none p q pl ql e = omega arith
+
 -- names stay apart when a new one follows them
 module _ (names : List (List ℕ)) (x : List ℕ) where
   pub named-old : (p : ℕ) → p < length names → named (names ++ x ∷ []) p ≡ named names p

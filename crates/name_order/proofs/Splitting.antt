@@ -1,6 +1,7 @@
 -- Rows whose names rise, and the place of a name among them.
 use Rattle.std.proofs.Common.{◌≡◌, ℕ, zero, suc, ◌+◌, ◌<◌, ◌≤◌, Bool, true, ◌&&◌, List, [], ◌∷◌, length, get_or, Less, Greater, sym, refl, ap, ◌∙◌, arith}
 use Rattle.std.proofs.lemmas.Bool.{and_parts, cond-true, cond-false}
+use Rattle.std.proofs.lemmas.List.{get_or_read}
 use Rattle.std.specs.List.{insert}
 use Rattle.std.specs.List.Sorted.{IsSortedBy, IsPartitionPoint}
 use Rattle.std.specs.Ordering.{is_lt}
@@ -42,3 +43,7 @@ module _ (key : ℕ → List ℕ) where
   inserted-is r (q ∷ qs) (suc i) le s =
       ap (λ ys. q ∷ ys) (inserted-is r qs i (omega arith) ((λ k d l h. s.0 (suc k) d (omega arith) (omega arith)), (λ k d l h. s.1 (suc k) d (omega arith) (omega arith))))
       ∙ sym (cond-false _ _ _ (before-asym (key q) (key r) (ap is_lt (s.0 0 q (omega arith) (omega arith)))))
+
+  -- the name that was read at a place
+  pub read-at : (xs : List ℕ) (mid row : ℕ) (here : List ℕ) → row ≡ get_or xs mid row → mid < length xs → here ≡ key row → here ≡ key (get_or xs mid 0)
+  read-at xs mid row here e lt h = h ∙ ap key (get_or_read xs mid row lt e 0)

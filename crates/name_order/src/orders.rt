@@ -61,7 +61,7 @@ impl Order {
     {
         self.rows.clear();
         // Pushed one by one: `extend_from_slice` may allocate, and does not say that the capacity stays.
-        for row in other.rows() {
+        for row in other.rows.as_slice() {
             self.rows.push_reserved(*row);
         }
     }
