@@ -1,7 +1,7 @@
 -- A part of a list that grew is the part it was; so a side keeps its rows where the bytes of the names grow, and where a row follows.
 use Rattle.std.proofs.Common.{◌≡◌, ℕ, ◌+◌, ◌≤◌, Bool, true, List, [], ◌∷◌, ◌++◌, map, length, take, drop, Some, sym, refl, ap, ◌∙◌, subst, arith}
 use Rattle.std.specs.List.{slice_get}
-use Rattle.std.proofs.lemmas.List.{length-append, length-drop, append_assoc, append-nil, take-append-le, drop-append-le, take_at, drop_at, map_push}
+use Rattle.std.proofs.lemmas.List.{length-append, length-drop, append_assoc, append-nil, length-take, take_all, take-append-drop, take-append-le, drop-append-le, take_at, drop_at, map_push}
 use Rattle.std.proofs.lemmas.List.Elements.{All-get_or, All-weaker}
 use Rattle.std.proofs.lemmas.List.Folds.{list_all-append}
 use Rattle.std.proofs.lemmas.List.Sums.{AllPass-from_list_all, list_all-from_AllPass}
@@ -31,6 +31,21 @@ keeps xs ys zs e =
       long = let n = ap length e ∙ length-append xs ys in omega (arith, n);
     }
 
+-- the parts alone make it so: the first list is a part of itself
+pub keeps-parts : {A : Type 0} (xs zs : List A) → ((p : Span) → within (length xs) p ≡ true → cut zs p ≡ cut xs p) → Keeps xs zs
+keeps-parts xs zs part =
+    let all : Span = record { start = 0; len = length xs } in
+    let same : cut zs all ≡ xs = part all (le-leb _ _ (omega arith)) ∙ take_all (length xs) xs (omega arith) in
+    let long : length (take (length xs) zs) ≡ length xs = ap length same in
+    record { part = part; long = omega (arith, long, length-take (length xs) zs) }
+
+-- a list that stays, and one that begins with another
+pub keeps_same : {A : Type 0} (xs : List A) → Keeps xs xs
+keeps_same xs = record { part = λ p w. refl; long = omega arith }
+
+pub keeps-front : {A : Type 0} (xs zs : List A) → take (length xs) zs ≡ xs → Keeps xs zs
+keeps-front xs zs g = keeps xs (drop (length xs) zs) zs (sym (take-append-drop (length xs) zs) ∙ ap (λ z. z ++ drop (length xs) zs) g)
+
 pub cut-new : {A : Type 0} (xs ys zs ws : List A) (p : Span) → ws ≡ xs ++ (ys ++ zs) → p.start ≡ length xs → p.len ≡ length ys → cut ws p ≡ ys
 cut-new xs ys zs ws p e s l =
     ap (λ z. cut z p) e ∙ ap (take p.len) (drop_at xs (ys ++ zs) p.start (sym s)) ∙ take_at ys zs p.len (sym l)
@@ -48,8 +63,29 @@ within-parts n k h w =
 pub within-all : (n k : ℕ) (h : Head) → Within n k h → stands n k h ≡ true
 within-all n k h w = and_from _ _ w.id (and_from _ _ w.stable_id w.records)
 
-within_more : (n m : ℕ) (p : Span) → n ≤ m → within n p ≡ true → within m p ≡ true
+pub within_more : (n m : ℕ) (p : Span) → n ≤ m → within n p ≡ true → within m p ≡ true
 within_more n m p le w = let h : p.start + p.len ≤ n = leb-true _ _ w in le-leb _ _ (omega arith)
+
+pub stands-more : (n m k j : ℕ) (h : Head) → n ≤ m → k ≤ j → stands n k h ≡ true → stands m j h ≡ true
+stands-more n m k j h a b w =
+    let p = within-parts n k h w in
+    within-all m j h
+    (record {
+      id = within_more n m h.names.id a p.id;
+      stable_id = within_more n m h.names.stable_id a p.stable_id;
+      records = within_more k j h.records b p.records;
+    })
+
+pub all_more : (n m k j : ℕ) (hs : List Head) → n ≤ m → k ≤ j → all_of (stands n k) hs ≡ true → all_of (stands m j) hs ≡ true
+all_more n m k j hs a b w = list_all-from_AllPass _ hs (All-weaker _ _ (λ h. stands-more n m k j h a b) hs (AllPass-from_list_all _ hs w))
+
+-- what grew twice grew
+pub keeps-more : {A : Type 0} (xs ys zs : List A) → Keeps xs ys → Keeps ys zs → Keeps xs zs
+keeps-more xs ys zs a b =
+    record {
+      part = λ p w. b.part p (within_more (length xs) (length ys) p a.long w) ∙ a.part p w;
+      long = omega (arith, a.long, b.long);
+    }
 
 -- a head of the list passes the test
 pub all-at : {A : Type 0} (p : A → Bool) (xs : List A) (i : ℕ) (x : A) → all_of p xs ≡ true → Some x ≡ slice_get xs i → p x ≡ true
@@ -58,25 +94,12 @@ all-at p xs i x w e =
 
 -- the bytes of the names grow, and the import records do
 module _ (bytes bytes' : List ℕ) (held held' : List ImportRecord) (b : Keeps bytes bytes') (k : Keeps held held') where
-  stands-more : (h : Head) → stands (length bytes) (length held) h ≡ true → stands (length bytes') (length held') h ≡ true
-  stands-more h w =
-      let p = within-parts (length bytes) (length held) h w in
-      within-all _ _ h
-      (record {
-        id = within_more _ _ h.names.id b.long p.id;
-        stable_id = within_more _ _ h.names.stable_id b.long p.stable_id;
-        records = within_more _ _ h.records k.long p.records;
-      })
-
-  row_kept : (h : Head) → stands (length bytes) (length held) h ≡ true → row_of bytes' held' h ≡ row_of bytes held h
+  pub row_kept : (h : Head) → stands (length bytes) (length held) h ≡ true → row_of bytes' held' h ≡ row_of bytes held h
   row_kept h w =
       let p = within-parts (length bytes) (length held) h w in
       let id = b.part h.names.id p.id in let stable_id = b.part h.names.stable_id p.stable_id in let records = k.part h.records p.records in cc
 
-  all_more : (hs : List Head) → all_of (stands (length bytes) (length held)) hs ≡ true → all_of (stands (length bytes') (length held')) hs ≡ true
-  all_more hs w = list_all-from_AllPass _ hs (All-weaker _ _ (λ h. stands-more h) hs (AllPass-from_list_all _ hs w))
-
-  rows-kept : (hs : List Head) → all_of (stands (length bytes) (length held)) hs ≡ true → map (row_of bytes' held') hs ≡ map (row_of bytes held) hs
+  pub rows-kept : (hs : List Head) → all_of (stands (length bytes) (length held)) hs ≡ true → map (row_of bytes' held') hs ≡ map (row_of bytes held) hs
   rows-kept [] w = refl
   rows-kept (h ∷ hs) w =
       let p = and_parts (stands (length bytes) (length held) h) _ w in
@@ -91,7 +114,7 @@ module _ (bytes bytes' : List ℕ) (s : Side) (b : Keeps bytes bytes') (w : Stan
   same-rows = rows-kept bytes bytes' s.records.items s.records.items b same s.heads.items w
 
   pub same-stands : Stands bytes' s
-  same-stands = all_more bytes bytes' s.records.items s.records.items b same s.heads.items w
+  same-stands = all_more (length bytes) (length bytes') (length s.records.items) (length s.records.items) s.heads.items b.long same.long w
 
   -- a row follows the others
   module _ (names : Names) (f : Facts) (rs : List ImportRecord) where
@@ -113,7 +136,7 @@ module _ (bytes bytes' : List ℕ) (s : Side) (b : Keeps bytes bytes') (w : Stan
         let all = s.records.items ++ rs in
         let last : within (length all) h.records ≡ true = simp length-append (le-leb _ _ (omega arith)) in
         list_all-append (stands (length bytes') (length all)) s.heads.items (h ∷ [])
-        ∙ and_from _ _ (all_more bytes bytes' s.records.items all b more s.heads.items w) (and_from _ _ (within-all _ _ h (record { id = id; stable_id = stable_id; records = last })) refl)
+        ∙ and_from _ _ (all_more (length bytes) (length bytes') (length s.records.items) (length all) s.heads.items b.long more.long w) (and_from _ _ (within-all _ _ h (record { id = id; stable_id = stable_id; records = last })) refl)
 
 -- names that follow the bytes
 module _ (bytes id stable_id bytes' : List ℕ) (b : bytes' ≡ bytes ++ (id ++ stable_id)) where

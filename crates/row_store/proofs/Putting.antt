@@ -1,5 +1,5 @@
 -- A store whose other side grows by a row.
-use Rattle.std.proofs.Common.{◌≡◌, ℕ, ◌+◌, ◌<◌, ◌≤◌, min, true, List, [], ◌∷◌, ◌++◌, length, Option, sym, ap, ◌∙◌, subst, Some, length-append, append-nil, arith}
+use Rattle.std.proofs.Common.{◌≡◌, ℕ, ◌+◌, ◌<◌, ◌≤◌, min, true, List, [], ◌∷◌, ◌++◌, length, Option, sym, refl, ap, ◌∙◌, subst, Some, length-append, append-nil, arith}
 use Rattle.std.proofs.lemmas.List.{length-map}
 use Rattle.std.specs.Option.{option_map}
 use Rattle.std.specs.List.{slice_get}
@@ -78,6 +78,15 @@ module _ (s : RowStore) (bytes : Filled ℕ) (former : Side) (names : Names) (f 
         rows = rows;
         same = same;
       }
+
+-- by no row
+pub grew-none : (s : RowStore) (come : List Row) → come ≡ [] → Grew s s.bytes s.former come
+grew-none s come e =
+    record {
+      kept = record { roomy = s.roomy; few = s.few; held = s.held; sound = s.sound; counted = s.counted };
+      rows = sym (append-nil (rows_before s)) ∙ ap (λ xs. rows_before s ++ xs) (sym e);
+      same = refl;
+    }
 
 -- by a row under names that are there
 module _ (s : RowStore) (n : ℕ) (h : Head) (there : Some h ≡ slice_get s.current.heads.items n) (former : Side) (f : Facts) (rs : List ImportRecord) (come : List Row) where
