@@ -1,5 +1,5 @@
 -- A table with rows laid over it, row by row.
-use Rattle.std.proofs.Common.{◌≡◌, ℕ, zero, suc, List, [], ◌∷◌, get_or, Some, None, Option, unwrap_or, Bor, sym, refl, ap, ◌∙◌}
+use Rattle.std.proofs.Common.{◌≡◌, ℕ, zero, suc, List, [], ◌∷◌, map, get_or, Some, None, Option, unwrap_or, Bor, sym, refl, ap, ◌∙◌}
 use Rattle.std.specs.Option.{option_map, MatchOption}
 use Rattle.std.specs.List.{slice_get}
 use Rattle.rows.specs.declared.Facts.{Facts}
@@ -22,6 +22,10 @@ at_overlay [] (g ∷ gs) (suc r) = at_overlay [] gs r
 at_overlay (x ∷ xs) [] r = refl
 at_overlay (x ∷ xs) (g ∷ gs) zero = refl
 at_overlay (x ∷ xs) (g ∷ gs) (suc r) = at_overlay xs gs r
+
+-- where a row is given, what is told of it is told
+pub told-given : {A : Type 0} (f : Row → A) (table : List Row) (gs : List (Option Row)) (r : ℕ) (q : Row) (x : A) → Some q ≡ get_or gs r None → x ≡ f q → x ≡ f (at (overlay table gs) r)
+told-given f table gs r q x g e = e ∙ ap (λ (o : Option Row). f (unwrap_or o (at table r))) g ∙ sym (ap f (at_overlay table gs r))
 
 -- where nothing is given, what is told of the table's row is told
 pub told-table : {A : Type 0} (f : Row → A) (table : List Row) (gs : List (Option Row)) (r : ℕ) (x : A) → None ≡ get_or gs r None → x ≡ f (at table r) → x ≡ f (at (overlay table gs) r)
@@ -58,10 +62,13 @@ sort_at {Q} rows r o s e q h = is o h ∙ ap (λ (p : Option Facts). unwrap_or (
     is (Some f) m = q f m
 
 -- the name of a row in a list of names
+pub named-map : (f : Row → List ℕ) (rows : List Row) (r : ℕ) → f nowhere ≡ [] → get_or (map f rows) r [] ≡ f (at rows r)
+named-map f [] r e = sym e
+named-map f (q ∷ rows) zero e = refl
+named-map f (q ∷ rows) (suc r) e = named-map f rows r e
+
 pub named_at : (kind : NameKind) (rows : List Row) (r : ℕ) → get_or (names_of kind rows) r [] ≡ name_of kind (at rows r)
-named_at kind [] r = unnamed kind
-named_at kind (q ∷ rows) zero = refl
-named_at kind (q ∷ rows) (suc r) = named_at kind rows r
+named_at kind rows r = named-map (name_of kind) rows r (sym (unnamed kind))
 
 -- what a glance at the place of a row shows
 pub shown_by : (r : Option Outline) (o : Option (Head × (ℕ × List ℕ))) → option_map outlined r ≡ o → option_map (λ (v : Outline). (glanced v).1) r ≡ option_map outline_row o
