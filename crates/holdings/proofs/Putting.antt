@@ -8,7 +8,7 @@ use Rattle.std.proofs.lemmas.List.Sums.{sum_by-cons}
 use Rattle.std.proofs.lemmas.Bool.{or_parts, cases_Bool}
 use Rattle.holdings.specs.Maps.{Map, changed, one, size}
 use Rattle.holdings.specs.Stores.{Store, put, takes}
-use Rattle.holdings.specs.Puts.{put_all, put_each, is_absent, absent, takes_all, takes_each, repeats, OneByOne}
+use Rattle.holdings.specs.Puts.{put_all, put_each, is_absent, absent, rows_in_range, takes_all, takes_each, repeats, OneByOne}
 use Rattle.holdings.proofs.Sizes.{size-changed}
 
 -- ---- the store
@@ -26,8 +26,19 @@ each-is-all s tablet (row ∷ rows) stamp = each-is-all (put s tablet row (stamp
 
 -- ---- how many rows are absent
 
-absent-cons : (m : Map) (t row : ℕ) (rows : List ℕ) → absent m t (row ∷ rows) ≡ cond (is_absent m t row) 1 0 + absent m t rows
-absent-cons m t row rows = sum_by-cons (λ row. cond (is_absent m t row) 1 0) row rows
+-- 1 for a row that is absent, else 0
+abbrev pub absence : Map → ℕ → ℕ → ℕ
+absence m t row = cond (is_absent m t row) 1 0
+
+pub absent_none : (m : Map) (t : ℕ) → absent m t [] ≡ 0
+absent_none m t = refl
+
+pub absent-cons : (m : Map) (t row : ℕ) (rows : List ℕ) → absent m t (row ∷ rows) ≡ absence m t row + absent m t rows
+absent-cons m t row rows = sum_by-cons (absence m t) row rows
+
+-- a row is either held or absent
+pub absence-held : (m : Map) (t row : ℕ) → absence m t row + one (m t row) ≡ 1
+absence-held m t row = grind (arith, nat_tests)
 
 absent-put-le : (s : Store) (t row stamp : ℕ) (rows : List ℕ) → absent (put s t row stamp).held t rows ≤ absent s.held t rows
 unfolding changed
@@ -43,10 +54,20 @@ absent-put s t row stamp (x ∷ rows) new =
 
 -- ---- whether a list is taken
 
+pub taken-parts : (s : Store) (t : ℕ) (rows : List ℕ) → takes_all s t rows ≡ true → (t < 16) × (rows_in_range rows ≡ true) × (size s.held + absent s.held t rows ≤ s.most)
+taken-parts s t rows taken = grind (arith, nat_tests)
+
+pub taken-from : (s : Store) (t : ℕ) (rows : List ℕ) → t < 16 → rows_in_range rows ≡ true → size s.held + absent s.held t rows ≤ s.most → takes_all s t rows ≡ true
+taken-from s t rows tl range room = grind (arith, nat_tests)
+
 module _ (s : Store) (t row stamp : ℕ) (rows : List ℕ) where
   -- a row that is put is one more, unless it was held
   sized : t < 16 → row < 4096 → size (put s t row stamp).held + one (s.held t row) ≡ size s.held + 1
   sized = size-changed s.held t row (Some stamp)
+
+  -- a row is taken, where there is room for it and for the others after it
+  pub takes_first : t < 16 → row < 4096 → size s.held + (absence s.held t row + absent s.held t rows) ≤ s.most → takes s t row ≡ true
+  takes_first tl rl room = grind (arith, nat_tests)
 
   -- the first of a list that is taken is taken, and so are the others after it
   pub taken_more : takes_all s t (row ∷ rows) ≡ true → (takes s t row ≡ true) × (takes_all (put s t row stamp) t rows ≡ true)
@@ -58,6 +79,9 @@ module _ (s : Store) (t row stamp : ℕ) (rows : List ℕ) where
   -- and the way back, where the first is not named again
   judged-more : takes s t row ≡ true → list_any (eqb row) rows ≡ false → takes_all s t (row ∷ rows) ≡ takes_all (put s t row stamp) t rows
   judged-more first new = grind (arith, nat_tests, sized, absent-cons s.held t row rows, absent-put s t row stamp rows new)
+
+  pub taken_back : takes s t row ≡ true → list_any (eqb row) rows ≡ false → takes_all (put s t row stamp) t rows ≡ true → takes_all s t (row ∷ rows) ≡ true
+  taken_back first new taken = judged-more first new ∙ taken
 
 -- a list that names no row twice is taken just if each of its rows is
 judged-each : (s : Store) (t : ℕ) (rows : List ℕ) (stamp : ℕ → ℕ) → size s.held ≤ s.most → t < 16 → repeats rows ≡ false → takes_all s t rows ≡ takes_each s t rows stamp

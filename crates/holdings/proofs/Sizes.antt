@@ -1,5 +1,5 @@
 -- How the size of a map follows a change.
-use Rattle.std.proofs.Common.{◌≡◌, ◌≢◌, ℕ, zero, suc, ◌+◌, ◌<◌, Some, None, Option, sym, refl, ap, ⊎_elim, arith}
+use Rattle.std.proofs.Common.{◌≡◌, ◌≢◌, ℕ, zero, suc, ◌+◌, ◌<◌, ◌≤◌, Some, None, Option, sym, refl, ap, ⊎_elim, arith}
 use Rattle.std.proofs.lemmas.Bool.{cases_eq}
 use Rattle.std.proofs.lemmas.Bool.Decides.{nat_tests}
 use Rattle.holdings.specs.Maps.{Map, nothing, changed, cleared, sum_to, one, size}
@@ -47,6 +47,14 @@ size-changed m t r o tl rl =
 -- a pair that was absent is one more
 pub size-more : (m : Map) (t r stamp : ℕ) → t < 16 → r < 4096 → m t r ≡ None → size (changed m t r (Some stamp)) ≡ suc (size m)
 size-more m t r stamp tl rl none = omega (arith, size-changed m t r (Some stamp) tl rl, ap one none)
+
+-- a pair that is held is counted
+pub one-le-size : (m : Map) (t r : ℕ) → t < 16 → r < 4096 → one (m t r) ≤ size m
+one-le-size m t r tl rl = omega (arith, size-changed m t r None tl rl)
+
+-- a pair that goes leaves the size within what it was within
+pub size-gone : (most : ℕ) (m : Map) (t r : ℕ) → t < 16 → r < 4096 → size m ≤ most → size (changed m t r None) ≤ most
+size-gone most m t r tl rl fits = omega (arith, size-changed m t r None tl rl)
 
 -- the pairs of a tablet are no longer counted
 pub size-cleared : (m : Map) (t : ℕ) → t < 16 → size (cleared m t) + size_of_tablet m t ≡ size m
