@@ -1,5 +1,5 @@
 -- A tablet whose cells are emptied.
-use Rattle.std.proofs.Common.{◌≡◌, ℕ, zero, suc, ◌+◌, ◌-◌, ◌<◌, ◌≤◌, List, ◌++◌, length, get_or, cond, ◌&&◌, leb, ltb, take, drop, replicate, is_some, count_by, None, Option, refl, ap, ◌∙◌, arith, rules, length-take-le, length-drop, get_or-drop}
+use Rattle.std.proofs.Common.{◌≡◌, ℕ, zero, suc, ◌+◌, ◌-◌, ◌<◌, ◌≤◌, List, ◌++◌, length, get_or, cond, ◌&&◌, eqb, leb, ltb, take, drop, replicate, is_some, count_by, None, Option, refl, ap, ◌∙◌, arith, rules, length-take-le, length-drop, get_or-drop}
 use mathlib.Core.Path.{fun_ext}
 use borrow.Rule.Slice.PartMut.{put_mid}
 use Rattle.std.proofs.lemmas.Bool.Decides.{nat_tests}
@@ -7,7 +7,7 @@ use Rattle.std.proofs.lemmas.Grind.{common_steps}
 use Rattle.std.proofs.lemmas.List.{take_at, length-replicate}
 use Rattle.std.proofs.lemmas.Slice.{overwrites}
 use Rattle.std.proofs.lemmas.List.Sums.{sum_by_more}
-use Rattle.holdings.specs.Maps.{rank, cleared, sum_to, one, size}
+use Rattle.holdings.specs.Maps.{Map, rank, changed, cleared, sum_to, one, size}
 use Rattle.holdings.proofs.Sizes.{sum_same, size-cleared}
 use Rattle.cells.specs.Cells.{in_cells}
 
@@ -56,3 +56,26 @@ forgets xs v ys t start k n tl at all long len whole none =
       gone = ap in_cells items ∙ in_cells-emptied xs t start k tl at all (omega arith);
       fewer = rw (items, whole) (size-emptied xs t start k tl at all (omega arith));
     }
+
+-- ---- a tablet whose cells are cleared one after another
+
+-- the first n rows of a tablet are gone
+unfoldable pub cleared_rows : Map → ℕ → ℕ → Map
+cleared_rows m tablet n t r = cond (eqb t tablet && ltb r n) None (m t r)
+
+pub cleared-none : (m : Map) (tablet : ℕ) → m ≡ cleared_rows m tablet 0
+unfolding cleared_rows
+cleared-none m tablet = fun_ext (λ t. fun_ext (λ r. grind (arith, nat_tests)))
+
+pub cleared_more : (m : Map) (tablet n : ℕ) → changed (cleared_rows m tablet n) tablet n None ≡ cleared_rows m tablet (n + 1)
+unfolding cleared_rows changed
+cleared_more m tablet n = fun_ext (λ t. fun_ext (λ r. grind (arith, nat_tests)))
+
+pub cleared-all : (xs : List (Option ℕ)) (tablet : ℕ) → cleared_rows (in_cells xs) tablet 4096 ≡ cleared (in_cells xs) tablet
+unfolding cleared_rows cleared
+cleared-all xs tablet = fun_ext (λ t. fun_ext (λ r. grind (arith, nat_tests)))
+
+-- a tablet out of range has no cells
+pub without-past : (xs : List (Option ℕ)) (tablet : ℕ) → 16 ≤ tablet → in_cells xs ≡ cleared (in_cells xs) tablet
+unfolding cleared
+without-past xs tablet past = fun_ext (λ t. fun_ext (λ r. grind (arith, nat_tests)))

@@ -1,17 +1,13 @@
-use Rattle.std.proofs.Common.{◌≡◌, ℕ, Some, None, Option, sym, refl, ap, ◌∙◌}
+use Rattle.std.proofs.Common.{◌≡◌, sym, ap, ◌∙◌}
 use Rattle.holdings.specs.Maps.{nothing, size}
 use Rattle.holdings.specs.Stores.{empty}
 use Rattle.holdings.proofs.Sizes.{size-nothing}
 use Rattle.cells.specs.Cells.{in_cells}
-use Rattle.cells.proofs.Celled.{in_cells-none}
+use Rattle.cells.proofs.Celled.{in_cells-none, only_none}
 use Rattle.cells.proofs.Cells.new.Goals as goal
 use Rattle.cells.proofs.Cells.new.Goals.{In_ok-cells}
 
--- what is a clone of `None`
-only_none : (R : Option ℕ → Type 0) → ((x : ℕ) → R (Some x) → ⊥) → (y : Option ℕ) → R y → y ≡ None
-only_none R never None h = refl
-only_none R never (Some x) h = absurd (never x h)
-
+-- a clone of `None` is `None`
 none_held : (c : In_ok-cells) → in_cells c.in_ok-cells.cells.items ≡ nothing
 none_held c = ap in_cells (c.in_ok-cells.ensures.items_if_clones_equal (only_none _ (λ x h. h))) ∙ in_cells-none 65536
 
