@@ -1,7 +1,7 @@
 use Rattle.std.proofs.Common.{rules}
 use Rattle.std.proofs.lemmas.List.Sorted.{answers_always}
 use Rattle.holdings.proofs.Ranks.{cmp-rank_of}
-use Rattle.pair_table.proofs.Order.{searched}
+use Rattle.pair_table.proofs.Order.{searched_all}
 use Rattle.pair_table.proofs.Searched.{found_if_held}
 use Rattle.pair_table.proofs.PairTable.find.Goals as goal
 
@@ -10,7 +10,7 @@ pub returns-clause-place : goal.returns-clause-place
 returns-clause-place c =
     let facts = c.binary_search_by_key.ensures in
     let by_spot = facts.position (λ pair. pair.spot) (answers_always _ _ _ (λ f a r g called. search rules)) in
-    rw (← c.deref.ensures.value) (searched _ cmp-rank_of _ (rw c.deref.ensures.value c.args.self.now.ordered) c.args.spot _ facts.bound by_spot)
+    searched_all _ cmp-rank_of _ c.args.self.now.ordered c.args.spot _ _ facts.bound by_spot (search rules)
 
 pub returns-clause-held : goal.returns-clause-held
 returns-clause-held c = found_if_held _ c.args.spot _ c.args.self.now.ordered (returns-clause-place c)
