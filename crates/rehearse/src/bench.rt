@@ -42,27 +42,24 @@ impl Bench {
         line: Line<'_>,
         call: Call,
     ) -> anyhow::Result<()> {
-        let written = line.written();
         match call {
             Call::Blank => {}
             Call::Room(room) => {
                 self.room = room;
-                println!(rt; "{written}: ok")?;
+                println!(rt; "{}: ok", line.written())?;
             }
             Call::Row(row) => self.add_row(rt, line, &row)?,
             Call::Raw(bytes) => {
                 let count = bytes.len();
                 self.collected.extend_from_slice(&bytes)?;
-                println!(rt; "{written}: ok {count}")?;
+                println!(rt; "{}: ok {count}", line.written())?;
             }
-            Call::List => self.list(rt, written)?,
+            Call::List => self.list(rt, line.written())?,
         }
         Ok(())
     }
 
     fn add_row(&mut self, rt: &HostRuntime, line: Line<'_>, told: &RowLine) -> anyhow::Result<()> {
-        let number = line.number;
-        let written = line.written();
         let row = Row {
             number: told.number,
             facts: told.facts,
@@ -73,9 +70,9 @@ impl Bench {
         match row.pack(&mut self.page) {
             Ok(len) => {
                 self.collected.extend_from_slice(&self.page[..len])?;
-                println!(rt; "{written}: ok {len}")?;
+                println!(rt; "{}: ok {len}", line.written())?;
             }
-            Err(fault) => println!(rt; "line {number}: {fault}")?,
+            Err(fault) => println!(rt; "line {}: {fault}", line.number)?,
         }
         Ok(())
     }

@@ -8,19 +8,18 @@ use std::fmt;
 struct Name<'a>(&'a [u8]);
 
 impl Name<'_> {
-    // The script would read its bytes as they are.
-    fn is_plain(&self) -> bool {
-        !self.0.starts_with(b"x'") && self.0.iter().all(|b| b.is_ascii_graphic() && *b != b'#')
+    // Its bytes as text, where the script would read them as they are.
+    fn plain(&self) -> Option<&str> {
+        let is_plain =
+            !self.0.starts_with(b"x'") && self.0.iter().all(|b| b.is_ascii_graphic() && *b != b'#');
+        if is_plain { str::from_utf8(self.0).ok() } else { None }
     }
 }
 
 impl fmt::Display for Name<'_> {
     fn fmt<W: fmt::Write>(&self, f: &mut fmt::Formatter<W>) -> fmt::Result {
-        if self.is_plain() {
-            for b in self.0 {
-                f.write_char(char::from(*b))?;
-            }
-            return Ok(());
+        if let Some(text) = self.plain() {
+            return f.write_str(text);
         }
         f.write_str("x'")?;
         for b in self.0 {
