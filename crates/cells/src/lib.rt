@@ -84,14 +84,12 @@ impl Holdings for Cells {
     fn set(&mut self, tablet: u8, row: u16, stamp: u32) -> Result<(), StoreFault> {
         let spot = Spot::of(tablet, row).ok_or(StoreFault::Full)?;
         let cell = &mut self.cells[place(spot)];
-        match cell {
-            Some(held) => *held = stamp,
-            None if self.count < self.most => {
-                *cell = Some(stamp);
-                self.count += 1;
-            }
-            None => return Err(StoreFault::Full),
+        if self.count >= self.most && cell.is_none() {
+            return Err(StoreFault::Full);
         }
+        // Counted without a branch, since no processor can tell in advance which cells are full.
+        self.count += usize::from(cell.is_none());
+        *cell = Some(stamp);
         Ok(())
     }
 
