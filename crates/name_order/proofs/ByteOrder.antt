@@ -11,7 +11,7 @@ less Equal e = cc
 less Greater e = cc
 
 -- the other way round
-turned : (a b : List ℕ) (o : Ordering) → compared a b ≡ o → compared b a ≡ ordering_reverse o
+pub turned : (a b : List ℕ) (o : Ordering) → compared a b ≡ o → compared b a ≡ ordering_reverse o
 turned a b o e = nat_list_cmp_total.antisymm b a ∙ ap ordering_reverse e
 
 pub before-asym : (a b : List ℕ) → before? a b ≡ true → before? b a ≡ false

@@ -5,3 +5,4 @@ pub mod Inserting
 pub mod Numbering
 pub mod Arranging
 pub mod Placing
+pub mod Halving

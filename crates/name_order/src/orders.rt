@@ -6,6 +6,7 @@ ghost use Rattle.name_order.specs.Listed.{listed, reserved, taken};
 
 use crate::{MOST_ROWS, Names, Order, Taken};
 use std::alloc::{AllocError, Global};
+use std::cmp::Ordering;
 
 // That an order goes with the names is a premise of the clauses, since a ghost field would demand it of each caller.
 impl Order {
@@ -29,8 +30,18 @@ impl Order {
         ensures within { IsSearchInRange result (vec_len self.now.rows) }
         ensures located { IsOrder (N.names names.now) (listed self.now) → Located (N.names names.now) name.now (listed self.now) result }
     {
-        self.rows
-            .binary_search_by(|row| names.name(*row).cmp(&name))
+        // Not the library's search, which goes on where it meets the name: one in the middle would be compared a dozen times.
+        let mut low = 0;
+        let mut high = self.rows.len();
+        while low < high {
+            let mid = low + (high - low) / 2;
+            match names.name(self.rows[mid]).cmp(&name) {
+                Ordering::Less => low = mid + 1,
+                Ordering::Greater => high = mid,
+                Ordering::Equal => return Ok(mid),
+            }
+        }
+        Err(low)
     }
 
     // The row that has a name.
