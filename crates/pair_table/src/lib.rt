@@ -2,6 +2,7 @@
 #![tactic(auto)]
 
 ghost use Rattle.std.specs.Prelude.{◌≡◌, ◌≤◌, min, IfOk, vec_len, vec_capacity, is_some, is_ok, MatchResult};
+ghost use Rattle.holdings.specs.Spots.{rank_of};
 ghost use Rattle.holdings.specs.Stores.{empty};
 ghost use Rattle.pair_table.specs.Pairs.{in_pairs, Ordered, Found, Missing};
 ghost use Rattle.pair_table.specs.Laws.{held-inside, held-within};
@@ -10,7 +11,7 @@ mod pair;
 
 use holdings::faults::StoreFault;
 use holdings::spot::Spot;
-use holdings::store::Holdings;
+use holdings::store::{Holdings, ROWS};
 use pair::Pair;
 use std::alloc::{AllocError, Global};
 
@@ -25,6 +26,13 @@ pub struct PairTable {
     ghost few: { vec_len pairs ≤ most },
     ghost reserved: { most ≤ vec_capacity pairs },
     ghost ordered: { Ordered pairs.items },
+}
+
+// The place of a spot in their order, in one number, which is compared at once.
+fn rank(spot: Spot) -> u16
+    ensures { result ≡ rank_of spot }
+{
+    u16::from(spot.tablet) * ROWS + spot.row
 }
 
 impl PairTable {
@@ -42,7 +50,8 @@ impl PairTable {
         ensures place { MatchResult result (Found self.now.pairs.items spot) (Missing self.now.pairs.items spot) }
         ensures held { is_ok result ≡ is_some (in_pairs self.now.pairs.items spot.tablet spot.row) }
     {
-        self.pairs.binary_search_by_key(&spot, |pair| pair.spot)
+        self.pairs
+            .binary_search_by_key(&rank(spot), |pair| rank(pair.spot))
     }
 }
 
