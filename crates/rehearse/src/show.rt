@@ -10,9 +10,13 @@ struct Name<'a>(&'a [u8]);
 impl Name<'_> {
     // Its bytes as text, where the script would read them as they are.
     fn plain(&self) -> Option<&str> {
-        let is_plain =
-            !self.0.starts_with(b"x'") && self.0.iter().all(|b| b.is_ascii_graphic() && *b != b'#');
-        if is_plain { str::from_utf8(self.0).ok() } else { None }
+        let is_plain = !self.0.starts_with(b"x'")
+            && self.0.iter().all(|b| b.is_ascii_graphic() && *b != b'#');
+        if is_plain {
+            str::from_utf8(self.0).ok()
+        } else {
+            None
+        }
     }
 }
 

@@ -1,4 +1,4 @@
-use Rattle.std.proofs.Common.{◌≡◌, ◌+◌, ◌-◌, ◌/◌, ◌<◌, length, vec_items, sym, ap, ◌∙◌, arith}
+use Rattle.std.proofs.Common.{◌+◌, ◌-◌, ◌/◌, ◌<◌, length, vec_items, sym, ap, ◌∙◌, arith}
 use Rattle.name_order.specs.Orders.{compared}
 use Rattle.name_order.proofs.Halving.{halved-start, halved-less, halved-greater, met, unmet}
 use Rattle.name_order.proofs.Order.locate.Goals as goal
