@@ -61,6 +61,17 @@ sort_at {Q} rows r o s e q h = is o h ∙ ap (λ (p : Option Facts). unwrap_or (
     is None m = m
     is (Some f) m = q f m
 
+-- the sort among the facts of a row
+sort-by : (o : Option Row) (p : Option Facts) → p ≡ option_map facts_of o → option_map (λ (f : Facts). f.sort) p ≡ option_map (λ (q : Row). q.sort) o
+sort-by None p e = ap (option_map (λ (f : Facts). f.sort)) e
+sort-by (Some q) p e = ap (option_map (λ (f : Facts). f.sort)) e
+
+pub sort-some : (rows : List Row) (r : ℕ) (f : Facts) → Some f ≡ option_map facts_of (slice_get rows r) → Some f.sort ≡ option_map (λ (q : Row). q.sort) (slice_get rows r)
+sort-some rows r f e = sort-by (slice_get rows r) (Some f) e
+
+pub sort-none : (rows : List Row) (r : ℕ) → None ≡ option_map facts_of (slice_get rows r) → None ≡ option_map (λ (q : Row). q.sort) (slice_get rows r)
+sort-none rows r e = sort-by (slice_get rows r) None e
+
 -- the name of a row in a list of names
 pub named-map : (f : Row → List ℕ) (rows : List Row) (r : ℕ) → f nowhere ≡ [] → get_or (map f rows) r [] ≡ f (at rows r)
 named-map f [] r e = sym e

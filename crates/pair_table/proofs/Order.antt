@@ -1,5 +1,5 @@
 -- The order of a table: what a search learns from it, and which edits keep it.
-use Rattle.std.proofs.Common.{◌≡◌, ℕ, zero, suc, ◌+◌, ◌-◌, ◌<◌, ◌≤◌, Bool, List, [], ◌∷◌, length, get_or, filter, Result, Ok, Err, Ordering, MatchResult, sym, ap, ◌∙◌, subst, ⊎_elim, arith}
+use Rattle.std.proofs.Common.{◌≡◌, ℕ, zero, suc, ◌+◌, ◌-◌, ◌<◌, ◌≤◌, Bool, List, [], ◌∷◌, length, get_or, filter, Result, Ok, Err, Ordering, MatchResult, refl, sym, ap, ◌∙◌, subst, ⊎_elim, arith}
 use Rattle.std.specs.List.{insert, AllByRecursion}
 use Rattle.std.specs.List.Sorted.{IsSearchInRange, IsBinarySearchResult, IsNonDecreasingBy}
 use Rattle.std.specs.Ordering.{MatchOrdering, nat_cmp, ordering_index}
@@ -39,6 +39,11 @@ module _ (cmp : Spot → Spot → Ordering) (by_rank : (a b : Spot) → cmp a b 
   pub searched_all : (xs : List Pair) (r : Result ℕ ℕ) → IsSearchInRange r (length xs) → IsBinarySearchResult (λ p. cmp p.spot spot) xs r → xs ≡ ps → MatchResult r (Found ps spot) (Missing ps spot)
   searched_all xs r in_range by_spot all =
       searched r (subst (λ ys. IsSearchInRange r (length ys)) all in_range) (subst (λ ys. IsBinarySearchResult (λ p. cmp p.spot spot) ys r) all by_spot)
+
+-- so does one by the rank of the spot
+pub searched_by_rank : (ps : List Pair) → Ordered ps → (spot : Spot) (n : ℕ) → n ≡ rank_of spot → (xs : List Pair) (r : Result ℕ ℕ) → IsSearchInRange r (length xs) → IsBinarySearchResult (λ p. nat_cmp (rank_of p.spot) n) xs r → xs ≡ ps → MatchResult r (Found ps spot) (Missing ps spot)
+searched_by_rank ps ordered spot n e xs r in_range by_rank =
+    searched_all (λ a b. nat_cmp (rank_of a) (rank_of b)) (λ a b. refl) ps ordered spot xs r in_range (subst (λ k. IsBinarySearchResult (λ p. nat_cmp (rank_of p.spot) k) xs r) e by_rank)
 
 -- ---- what a pair that was read tells of the others
 

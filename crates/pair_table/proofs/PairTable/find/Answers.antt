@@ -1,9 +1,7 @@
-use Rattle.std.proofs.Common.{rules, refl, subst}
-use Rattle.std.specs.List.Sorted.{IsBinarySearchResult}
-use Rattle.std.specs.Ordering.{nat_cmp}
+use Rattle.std.proofs.Common.{rules}
 use Rattle.std.proofs.lemmas.List.Sorted.{answers_always}
 use Rattle.holdings.specs.Spots.{rank_of}
-use Rattle.pair_table.proofs.Order.{searched_all}
+use Rattle.pair_table.proofs.Order.{searched_by_rank}
 use Rattle.pair_table.proofs.Searched.{found_if_held}
 use Rattle.pair_table.proofs.PairTable.find.Goals as goal
 
@@ -12,8 +10,7 @@ pub returns-clause-place : goal.returns-clause-place
 returns-clause-place c =
     let facts = c.binary_search_by_key.ensures in
     let by_rank = facts.position (λ pair. rank_of pair.spot) (answers_always _ _ _ (λ f a r g called. search rules)) in
-    let by_spot = subst (λ n. IsBinarySearchResult (λ pair. nat_cmp (rank_of pair.spot) n) c.deref.result.now c.binary_search_by_key.result) c.rank.ensures by_rank in
-    searched_all (λ a b. nat_cmp (rank_of a) (rank_of b)) (λ a b. refl) _ c.args.self.now.ordered c.args.spot _ _ facts.bound by_spot (search rules)
+    searched_by_rank _ c.args.self.now.ordered c.args.spot _ c.rank.ensures _ _ facts.bound by_rank (search rules)
 
 pub returns-clause-held : goal.returns-clause-held
 returns-clause-held c = found_if_held _ c.args.spot _ c.args.self.now.ordered (returns-clause-place c)
